@@ -1,0 +1,164 @@
+-- Refusals 1 to 11 (document 01, "Who can cause which number"): eleven conditions on the bytes of a file, and what the reader
+-- answers. Each condition is stated for a file s and its head j.
+use mathlib.Core.Bool.{Bool, _||_, _&&_, not}
+use mathlib.Core.Option.{Option, none, some}
+use mathlib.Core.List.{List, [], _∷_, _++_}
+use Prim.Native.Nat.{ℕ, _+_, _*_}
+use lib.Dec.{eqb, leb, ltb}
+use lib.ListN.{length}
+use Rattle.lamp_line.specs.Tables.{programState, worldState}
+use Rattle.lamp_line.specs.Refusals.{Rule, _when_, refusal, some-below}
+use Rattle.job_file.specs.declared.Part.{Part}
+use Rattle.job_file.specs.declared.Job.{Job}
+use Rattle.job_file.specs.declared.Reading.{Reading}
+use Rattle.job_file.specs.declared.Reading.the-variants as reading
+use Rattle.job_file.specs.Layout.{byte, head, marksLength, cellCount, cellsLength, startsLength, goalLength, planLength, markPlace, resultPlace, startPlace, actionPlace, targetPlace}
+
+-- ---- 1: "file under 28 or over 65,535 bytes"
+
+abbrev pub sizeWrong : List ℕ → Bool
+sizeWrong s = ltb (length s) 28 || ltb 65535 (length s)
+
+-- ---- 2: "one of bytes 0 to 7 out of range"
+
+abbrev pub outside : ℕ → ℕ → ℕ → Bool
+outside low high n = ltb n low || ltb high n
+
+unfoldable pub numberWrong : List ℕ → Job → Bool
+numberWrong s j =
+    outside 1 16 (j .actions) || outside 1 64 (j .worlds) || outside 1 15 (j .kinds) || outside 1 8 (j .results)
+    || outside 0 64 (j .states) || outside 0 (j .states) (j .first .0)
+    || outside 0 0 (byte s 6) || outside 0 0 (byte s 7)
+
+-- ---- 3: "a pair out of place"
+
+abbrev pub endOf : Part → ℕ
+endOf p = p .offset + p .length
+
+-- "Each part begins at or after the end of the one before (the first at 28 or later) and ends within the file."
+abbrev pub misplaced : ℕ → ℕ → Part → Bool
+misplaced size before p = ltb (p .offset) before || ltb size (endOf p)
+
+unfoldable pub pairWrong : List ℕ → Job → Bool
+pairWrong s j =
+    misplaced (length s) 28 (j .marks)
+    || misplaced (length s) (endOf (j .marks)) (j .cells)
+    || misplaced (length s) (endOf (j .cells)) (j .starts)
+    || misplaced (length s) (endOf (j .starts)) (j .goal)
+    || misplaced (length s) (endOf (j .goal)) (j .plan)
+
+-- ---- 4: "a part's length wrong"
+
+abbrev pub differs : ℕ → ℕ → Bool
+differs m n = not (eqb m n)
+
+unfoldable pub lengthWrong : Job → Bool
+lengthWrong j =
+    differs (j .marks .length) (marksLength j)
+    || differs (j .cells .length) (cellsLength j)
+    || differs (j .starts .length) (startsLength j)
+    || differs (j .goal .length) (goalLength j)
+    || differs (j .plan .length) (planLength j)
+
+-- ---- 5, 8, 9: bytes that must be 0 or 1
+
+-- The byte i places behind `from` is neither 0 nor 1.
+abbrev pub notBit : List ℕ → ℕ → ℕ → Bool
+notBit s from i = ltb 1 (byte s (from + i))
+
+-- 5: "mark not 0 or 1"
+abbrev pub markWrong : List ℕ → Job → Bool
+markWrong s j = some-below (marksLength j) (notBit s (j .marks .offset))
+
+-- The start byte i is 1.
+abbrev pub isSet : List ℕ → ℕ → ℕ → Bool
+isSet s from i = eqb (byte s (from + i)) 1
+
+-- 8: "start byte not 0 or 1, or none set"
+abbrev pub startWrong : List ℕ → Job → Bool
+startWrong s j =
+    some-below (startsLength j) (notBit s (j .starts .offset))
+    || not (some-below (startsLength j) (isSet s (j .starts .offset)))
+
+-- 9: "goal byte not 0 or 1"
+abbrev pub goalWrong : List ℕ → Job → Bool
+goalWrong s j = some-below (goalLength j) (notBit s (j .goal .offset))
+
+-- ---- 6: "a cell's next or result out of range, or 255 with next not 0"
+
+abbrev pub cellWrongIn : ℕ → ℕ → ℕ → ℕ → Bool
+cellWrongIn worlds results next result =
+    leb worlds next || leb results result && not (eqb result 255) || eqb result 255 && not (eqb next 0)
+
+-- The cell number i of the cells that begin at `from`.
+abbrev pub cellWrongAt : List ℕ → ℕ → ℕ → ℕ → ℕ → Bool
+cellWrongAt s from worlds results i = cellWrongIn worlds results (byte s (from + 2 * i)) (byte s (from + 2 * i + 1))
+
+abbrev pub cellWrong : List ℕ → Job → Bool
+cellWrong s j = some-below (cellCount j) (cellWrongAt s (j .cells .offset) (j .worlds) (j .results))
+
+-- ---- 7: "a moving-on action legal in column 0"
+
+-- The action is legal in column 0 in the world state w.
+abbrev pub legalAtEnd : List ℕ → Job → ℕ → ℕ → Bool
+legalAtEnd s j a w = differs (byte s (resultPlace j a (worldState w) 0)) 255
+
+abbrev pub movesOnAtEnd : List ℕ → Job → ℕ → Bool
+movesOnAtEnd s j a = eqb (byte s (markPlace j a)) 1 && some-below (j .worlds) (legalAtEnd s j a)
+
+abbrev pub endWrong : List ℕ → Job → Bool
+endWrong s j = some-below (j .actions) (movesOnAtEnd s j)
+
+-- ---- 10: "action not below A"
+
+abbrev pub actionWrongAt : List ℕ → Job → ℕ → Bool
+actionWrongAt s j q = leb (j .actions) (byte s (actionPlace j (programState q)))
+
+abbrev pub actionWrong : List ℕ → Job → Bool
+actionWrong s j = some-below (j .states) (actionWrongAt s j)
+
+-- ---- 11: "target above S, not 255"
+
+abbrev pub targetWrongAt : List ℕ → Job → ℕ → ℕ → Bool
+targetWrongAt s j q r =
+    ltb (j .states) (byte s (targetPlace j (programState q) r)) && differs (byte s (targetPlace j (programState q) r)) 255
+
+abbrev pub rowWrong : List ℕ → Job → ℕ → Bool
+rowWrong s j q = some-below (j .results) (targetWrongAt s j q)
+
+abbrev pub targetWrong : List ℕ → Job → Bool
+targetWrong s j = some-below (j .states) (rowWrong s j)
+
+-- ---- the reader
+
+-- The rules on the head of the file, then those on its parts.
+abbrev pub headRules : List ℕ → Job → List Rule
+headRules s j =
+    (1 when sizeWrong s) ∷
+    (2 when numberWrong s j) ∷
+    (3 when pairWrong s j) ∷
+    (4 when lengthWrong j) ∷
+    []
+
+abbrev pub partRules : List ℕ → Job → List Rule
+partRules s j =
+    (5 when markWrong s j) ∷
+    (6 when cellWrong s j) ∷
+    (7 when endWrong s j) ∷
+    (8 when startWrong s j) ∷
+    (9 when goalWrong s j) ∷
+    (10 when actionWrong s j) ∷
+    (11 when targetWrong s j) ∷
+    []
+
+abbrev pub fileRules : List ℕ → List Rule
+fileRules s = headRules s (head s) ++ partRules s (head s)
+
+abbrev readingUnless : Option ℕ → Job → Reading
+readingUnless none j = reading.Job j
+readingUnless (some number) j = reading.Refused number
+
+-- "The reader answers bytes 0 to 5 and the five pairs as numbers, or a refusal": "the lowest number that applies is given, and
+-- only if its condition holds".
+unfoldable pub readingOf : List ℕ → Reading
+readingOf s = readingUnless (refusal (fileRules s)) (head s)

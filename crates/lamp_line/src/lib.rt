@@ -1,0 +1,52 @@
+// The terms of document 01 as types. What they mean is defined in specs/.
+ghost use mathlib.Core.Path.{_≡_};
+ghost use Prim.Native.Nat.{_*_};
+
+// A program state and a world state are two sorts of number (01, "The line and its tables"). A value of one sort does not pass
+// for a value of the other, and each becomes a place in a table by one function only.
+pub struct ProgramState(pub u8);
+pub struct WorldState(pub u8);
+
+fn row_start(number: u8, width: u16) -> usize
+    ensures { λ r. ⌜ r ≡ number * width ⌝ }
+{
+    number as usize * width as usize
+}
+
+impl ProgramState {
+    // Where the row of this program state begins, in a table whose rows are `width` long.
+    pub fn row(self, width: u16) -> usize
+        ensures { λ r. ⌜ r ≡ self .0 * width ⌝ }
+    {
+        row_start(self.0, width)
+    }
+}
+
+impl WorldState {
+    // Where the row of this world state begins, in a table whose rows are `width` long.
+    pub fn row(self, width: u16) -> usize
+        ensures { λ r. ⌜ r ≡ self .0 * width ⌝ }
+    {
+        row_start(self.0, width)
+    }
+}
+
+// Failures 1 to 4 (01, "One run").
+pub enum FailureKind {
+    NotLegal,
+    NoBranch,
+    Circles,
+    GoalFalse,
+}
+
+// How a run ends (01, "One run").
+pub enum Ending {
+    Goal,
+    Failure(FailureKind),
+}
+
+// The cabinet's machine (01, "The cabinet"): the program state, and the number of lamps left.
+pub struct Cabinet {
+    pub state: ProgramState,
+    pub lamps: u16,
+}
