@@ -1,1 +1,4 @@
 pub mod BenchRuns
+pub mod Bounds
+pub mod HeadLaws
+pub mod ReadingLaws

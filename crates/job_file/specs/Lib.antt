@@ -1,4 +1,5 @@
 pub mod BenchLine
 pub mod JobTables
+pub mod Laid
 pub mod Layout
 pub mod Rules

@@ -2,17 +2,17 @@
 -- answers. Each condition is stated for a file s and its head j.
 use mathlib.Core.Bool.{Bool, _||_, _&&_, not}
 use mathlib.Core.Option.{Option, none, some}
-use mathlib.Core.List.{List, [], _∷_, _++_}
+use mathlib.Core.List.{List, [], _∷_}
 use Prim.Native.Nat.{ℕ, _+_, _*_}
 use lib.Dec.{eqb, leb, ltb}
-use lib.ListN.{length}
+use lib.ListN.{length, drop}
 use Rattle.lamp_line.specs.Tables.{programState, worldState}
 use Rattle.lamp_line.specs.Refusals.{Rule, _when_, refusal, some-below}
 use Rattle.job_file.specs.declared.Part.{Part}
 use Rattle.job_file.specs.declared.Job.{Job}
 use Rattle.job_file.specs.declared.Reading.{Reading}
 use Rattle.job_file.specs.declared.Reading.the-variants as reading
-use Rattle.job_file.specs.Layout.{byte, head, marksLength, cellCount, cellsLength, startsLength, goalLength, planLength, markPlace, resultPlace, startPlace, actionPlace, targetPlace}
+use Rattle.job_file.specs.Layout.{byte, head, marksLength, cellCount, cellsLength, startsLength, goalLength, planLength, markPlace, resultPlace, actionPlace}
 
 -- ---- 1: "file under 28 or over 65,535 bytes"
 
@@ -119,29 +119,25 @@ actionWrong s j = some-below (j .states) (actionWrongAt s j)
 
 -- ---- 11: "target above S, not 255"
 
-abbrev pub targetWrongAt : List ℕ → Job → ℕ → ℕ → Bool
-targetWrongAt s j q r =
-    ltb (j .states) (byte s (targetPlace j (programState q) r)) && differs (byte s (targetPlace j (programState q) r)) 255
+-- The target i places behind `from`.
+abbrev pub targetWrongAt : List ℕ → ℕ → ℕ → ℕ → Bool
+targetWrongAt s from states i = ltb states (byte s (from + i)) && differs (byte s (from + i)) 255
 
+-- One of the targets of the program state q, which stand behind its action.
 abbrev pub rowWrong : List ℕ → Job → ℕ → Bool
-rowWrong s j q = some-below (j .results) (targetWrongAt s j q)
+rowWrong s j q = some-below (j .results) (targetWrongAt s (actionPlace j (programState q) + 1) (j .states))
 
 abbrev pub targetWrong : List ℕ → Job → Bool
 targetWrong s j = some-below (j .states) (rowWrong s j)
 
 -- ---- the reader
 
--- The rules on the head of the file, then those on its parts.
-abbrev pub headRules : List ℕ → Job → List Rule
-headRules s j =
+abbrev pub rules : List ℕ → Job → List Rule
+rules s j =
     (1 when sizeWrong s) ∷
     (2 when numberWrong s j) ∷
     (3 when pairWrong s j) ∷
     (4 when lengthWrong j) ∷
-    []
-
-abbrev pub partRules : List ℕ → Job → List Rule
-partRules s j =
     (5 when markWrong s j) ∷
     (6 when cellWrong s j) ∷
     (7 when endWrong s j) ∷
@@ -151,10 +147,11 @@ partRules s j =
     (11 when targetWrong s j) ∷
     []
 
+-- The refusals of a file, which every operation gives before its own.
 abbrev pub fileRules : List ℕ → List Rule
-fileRules s = headRules s (head s) ++ partRules s (head s)
+fileRules s = rules s (head s)
 
-abbrev readingUnless : Option ℕ → Job → Reading
+abbrev pub readingUnless : Option ℕ → Job → Reading
 readingUnless none j = reading.Job j
 readingUnless (some number) j = reading.Refused number
 
@@ -162,3 +159,7 @@ readingUnless (some number) j = reading.Refused number
 -- only if its condition holds".
 unfoldable pub readingOf : List ℕ → Reading
 readingOf s = readingUnless (refusal (fileRules s)) (head s)
+
+-- The same for a file to which the first n rules do not apply.
+unfoldable pub readingFrom : ℕ → List ℕ → Job → Reading
+readingFrom n s j = readingUnless (refusal (drop n (rules s j))) j

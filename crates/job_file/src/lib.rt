@@ -1,9 +1,14 @@
-// The job file reader (document 01, "Job file"), and the reading of its tables.
+// The job file reader (document 01, "Job file").
+//
+// `read_job` is the operation; it asks nothing of its caller. The other functions serve it and the crates above.
 ghost use mathlib.Core.Path.{_≡_};
-ghost use Prim.Native.Nat.{_+_, _≤_};
-ghost use lib.ListN.{length};
-ghost use Rattle.job_file.specs.Layout.{word, part, head};
+ghost use Rattle.job_file.specs.Rules.{readingOf};
 use lamp_line::ProgramState;
+
+mod head;
+mod head_rules;
+mod part_rules;
+pub mod places;
 
 // A pair of the file's head: where a part begins, and how many bytes it has.
 pub struct Part {
@@ -11,8 +16,8 @@ pub struct Part {
     pub length: u16,
 }
 
-// What the reader answers of a file that is not refused: bytes 0 to 5, which are A, W, C, R, S and the first program state,
-// and the five pairs.
+// What the reader answers of a file that is not refused: bytes 0 to 5, which are A, W, C, R, S and the first program state, and
+// the five pairs.
 pub struct Job {
     pub actions: u8,
     pub worlds: u8,
@@ -32,37 +37,23 @@ pub enum Reading {
     Refused(u8),
 }
 
-fn read_word(file: &[u8], at: usize) -> u16
-    requires { ⌜ at + 2 ≤ length (now file) ⌝ }
-    ensures { λ r. ⌜ r ≡ word (now (file .entry)) at ⌝ }
+// The reader: what the job file holds, or the lowest refusal that applies to it.
+pub fn read_job(file: &[u8]) -> Reading
+    ensures { λ r. ⌜ r ≡ readingOf (now (file .entry)) ⌝ }
 {
-    let low = file[at] as u16;
-    let high = file[at + 1] as u16;
-    low + 256 * high
-}
-
-fn read_part(file: &[u8], at: usize) -> Part
-    requires { ⌜ at + 4 ≤ length (now file) ⌝ }
-    ensures { λ r. ⌜ r ≡ part (now (file .entry)) at ⌝ }
-{
-    Part { offset: read_word(file, at), length: read_word(file, at + 2) }
-}
-
-fn read_head(file: &[u8]) -> Job
-    requires { ⌜ 28 ≤ length (now file) ⌝ }
-    ensures { λ r. ⌜ r ≡ head (now (file .entry)) ⌝ }
-{
-    Job {
-        actions: file[0],
-        worlds: file[1],
-        kinds: file[2],
-        results: file[3],
-        states: file[4],
-        first: ProgramState(file[5]),
-        marks: read_part(file, 8),
-        cells: read_part(file, 12),
-        starts: read_part(file, 16),
-        goal: read_part(file, 20),
-        plan: read_part(file, 24),
+    let size = file.len();
+    if (size < 28) | (65535 < size) {
+        return Reading::Refused(1);
     }
+    let job = head::read_head(file);
+    if head_rules::number_wrong(file, job) {
+        return Reading::Refused(2);
+    }
+    if head_rules::pair_wrong(file, job) {
+        return Reading::Refused(3);
+    }
+    if head_rules::length_wrong(job) {
+        return Reading::Refused(4);
+    }
+    part_rules::read_parts(file, job)
 }

@@ -1,7 +1,7 @@
 -- The bytes and the pairs are those of the head.
 use borrow.Author.Needs.{needs}
-use Rattle.job_file.proofs.read_head.Statement.{statement}
-use Rattle.job_file.proofs.read_head.Tie as tie
+use Rattle.job_file.proofs.head.read_head.Statement.{statement}
+use Rattle.job_file.proofs.head.read_head.Tie as tie
 
 shared-slice-read-t3 : tie.Need-shared-slice-read-t3
 shared-slice-read-t3 c = search needs

@@ -1,7 +1,7 @@
 -- The two words are those of the pair.
 use borrow.Author.Needs.{needs}
-use Rattle.job_file.proofs.read_part.Statement.{statement}
-use Rattle.job_file.proofs.read_part.Tie as tie
+use Rattle.job_file.proofs.head.read_part.Statement.{statement}
+use Rattle.job_file.proofs.head.read_part.Tie as tie
 
 read-word-requires : tie.Need-read-word-requires
 read-word-requires c κs = search needs

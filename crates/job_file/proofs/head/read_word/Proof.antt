@@ -2,8 +2,8 @@
 use borrow.Author.Needs.{needs}
 use native.Mathlib.Omega.{arith}
 use Prim.Native.Nat.{_+_}
-use Rattle.job_file.proofs.read_word.Statement.{statement}
-use Rattle.job_file.proofs.read_word.Tie as tie
+use Rattle.job_file.proofs.head.read_word.Statement.{statement}
+use Rattle.job_file.proofs.head.read_word.Tie as tie
 
 shared-slice-read-low : tie.Need-shared-slice-read-low
 shared-slice-read-low c = search needs

@@ -1,0 +1,47 @@
+-- A loop that looks for a number below n with a property, from 0 upwards: what it knows on the way, and what its answer says.
+use mathlib.Core.Path.{_≡_, refl, sym, subst, _∙_}
+use mathlib.Core.Bool.{Bool, true, false, _||_}
+use Prim.Native.Nat.{ℕ, zero, suc, _+_, _≤_, _<_}
+use native.Mathlib.Decide.{ℕ-discrete}
+use native.Mathlib.Numerals.{add-one}
+use native.Mathlib.Omega.{arith}
+use Rattle.lamp_line.specs.Refusals.{some-below}
+
+-- None of the numbers below i has the property.
+pub record NoneYet (p : ℕ → Bool) (n i : ℕ) : Type 0 where
+  pub within : i ≤ n
+  pub none : some-below i p ≡ false
+
+or-true : (b : Bool) → (b || true) ≡ true
+or-true true = refl
+or-true false = refl
+
+pub none-yet-start : (p : ℕ → Bool) (n : ℕ) → NoneYet p n 0
+unfolding some-below
+none-yet-start p n = record { within = omega arith; none = refl }
+
+pub none-yet-more : (p : ℕ → Bool) (n i : ℕ) → i < n → NoneYet p n i → p i ≡ false → NoneYet p n (i + 1)
+unfolding some-below
+none-yet-more p n i i<n before here = record { within = omega arith; none = rw (add-one i) (rw here (before .none)) }
+
+-- A number below n with the property is found.
+pub found-below : (p : ℕ → Bool) (n i : ℕ) → i < n → p i ≡ true → true ≡ some-below n p
+unfolding some-below
+found-below p zero i i<n here = absurd (omega arith)
+found-below p (suc n) i i<n here = at (ℕ-discrete i n) (λ below. found-below p n i below here)
+  where
+    at : Dec (i ≡ n) → (i < n → true ≡ some-below n p) → true ≡ (p n || some-below n p)
+    at (yes i≡n) earlier = let e : p n ≡ true = subst (λ (k : ℕ). p k ≡ true) i≡n here in rw e
+    at (no i≢n) earlier = rw (sym (earlier (omega arith))) (sym (or-true (p n)))
+
+-- The loop has come to n.
+pub none-below : (p : ℕ → Bool) (n i : ℕ) → n ≤ i → NoneYet p n i → false ≡ some-below n p
+none-below p n i n≤i before = let i≡n : i ≡ n = omega arith in sym (rw i≡n at (before .none))
+
+-- What a false answer says of each number below n.
+pub none-at : (p : ℕ → Bool) (n : ℕ) → some-below n p ≡ false → (i : ℕ) → i < n → p i ≡ false
+none-at p n none i i<n = by (p i) refl
+  where
+    by : (b : Bool) → p i ≡ b → p i ≡ false
+    by false e = e
+    by true e = e ∙ found-below p n i i<n e ∙ none
