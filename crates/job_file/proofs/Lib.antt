@@ -1,4 +1,1 @@
-pub mod BenchRuns
-pub mod Bounds
-pub mod HeadLaws
 pub mod ReadingLaws

@@ -5,11 +5,12 @@ use mathlib.Core.Bool.{Bool, true, false, cond}
 use mathlib.Core.List.{List, [], _∷_}
 use Prim.Native.Nat.{ℕ}
 use Rattle.lamp_line.specs.Refusals.{Rule, _when_, refusal}
-use Rattle.job_file.specs.declared.Job.{Job}
+use Rattle.job_layout.specs.declared.Job.{Job}
 use Rattle.job_file.specs.declared.Reading.{Reading}
 use Rattle.job_file.specs.declared.Reading.the-variants as reading
-use Rattle.job_file.specs.Layout.{head}
-use Rattle.job_file.specs.Rules.{sizeWrong, numberWrong, pairWrong, lengthWrong, markWrong, cellWrong, endWrong, startWrong, goalWrong, actionWrong, targetWrong, readingUnless, readingOf, readingFrom}
+use Rattle.job_layout.specs.Layout.{head}
+use Rattle.job_rules.specs.Rules.{sizeWrong, numberWrong, pairWrong, lengthWrong, markWrong, cellWrong, endWrong, startWrong, goalWrong, actionWrong, targetWrong}
+use Rattle.job_file.specs.Reading.{readingUnless, readingOf, readingFrom}
 
 abbrev pub refusedIf : Bool → ℕ → Reading → Reading
 refusedIf applies number otherwise = cond applies (reading.Refused number) otherwise

@@ -1,5 +1,1 @@
-pub mod BenchLine
-pub mod JobTables
-pub mod Laid
-pub mod Layout
-pub mod Rules
+pub mod Reading

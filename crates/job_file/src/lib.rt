@@ -1,36 +1,19 @@
-// The job file reader (document 01, "Job file").
-//
-// `read_job` is the operation; it asks nothing of its caller. The other functions serve it and the crates above.
+// The job file reader (document 01, "Job file"). `read_job` is the operation; it asks nothing of its caller.
 ghost use mathlib.Core.Path.{_≡_};
-ghost use Rattle.job_file.specs.Rules.{readingOf};
-use lamp_line::ProgramState;
-
-mod head;
-mod head_rules;
-mod part_rules;
-pub mod places;
-
-// A pair of the file's head: where a part begins, and how many bytes it has.
-pub struct Part {
-    pub offset: u16,
-    pub length: u16,
-}
-
-// What the reader answers of a file that is not refused: bytes 0 to 5, which are A, W, C, R, S and the first program state, and
-// the five pairs.
-pub struct Job {
-    pub actions: u8,
-    pub worlds: u8,
-    pub kinds: u8,
-    pub results: u8,
-    pub states: u8,
-    pub first: ProgramState,
-    pub marks: Part,
-    pub cells: Part,
-    pub starts: Part,
-    pub goal: Part,
-    pub plan: Part,
-}
+ghost use Rattle.job_layout.specs.Laid.{Laid};
+ghost use Rattle.job_file.specs.Reading.{readingOf, readingFrom};
+use job_layout::head::read_head;
+use job_layout::Job;
+use job_rules::head_rules::length_wrong;
+use job_rules::head_rules::number_wrong;
+use job_rules::head_rules::pair_wrong;
+use job_rules::part_rules::action_wrong;
+use job_rules::part_rules::cell_wrong;
+use job_rules::part_rules::end_wrong;
+use job_rules::part_rules::goal_wrong;
+use job_rules::part_rules::mark_wrong;
+use job_rules::part_rules::start_wrong;
+use job_rules::part_rules::target_wrong;
 
 pub enum Reading {
     Job(Job),
@@ -45,15 +28,59 @@ pub fn read_job(file: &[u8]) -> Reading
     if (size < 28) | (65535 < size) {
         return Reading::Refused(1);
     }
-    let job = head::read_head(file);
-    if head_rules::number_wrong(file, job) {
+    let job = read_head(file);
+    if number_wrong(file, job) {
         return Reading::Refused(2);
     }
-    if head_rules::pair_wrong(file, job) {
+    if pair_wrong(file, job) {
         return Reading::Refused(3);
     }
-    if head_rules::length_wrong(job) {
+    if length_wrong(job) {
         return Reading::Refused(4);
     }
-    part_rules::read_parts(file, job)
+    read_parts(file, job)
+}
+
+// The rest of the reader's tests, once refusals 1 to 4 are out. Each test goes over its whole part before the next begins, so
+// that the lowest number is found.
+fn read_parts(file: &[u8], job: Job) -> Reading
+    requires { ⌜ Laid (now file) job ⌝ }
+    ensures { λ r. ⌜ r ≡ readingFrom 4 (now (file .entry)) job ⌝ }
+{
+    if mark_wrong(file, job) {
+        return Reading::Refused(5);
+    }
+    if cell_wrong(file, job) {
+        return Reading::Refused(6);
+    }
+    if end_wrong(file, job) {
+        return Reading::Refused(7);
+    }
+    read_starts_and_goal(file, job)
+}
+
+fn read_starts_and_goal(file: &[u8], job: Job) -> Reading
+    requires { ⌜ Laid (now file) job ⌝ }
+    ensures { λ r. ⌜ r ≡ readingFrom 7 (now (file .entry)) job ⌝ }
+{
+    if start_wrong(file, job) {
+        return Reading::Refused(8);
+    }
+    if goal_wrong(file, job) {
+        return Reading::Refused(9);
+    }
+    read_plan(file, job)
+}
+
+fn read_plan(file: &[u8], job: Job) -> Reading
+    requires { ⌜ Laid (now file) job ⌝ }
+    ensures { λ r. ⌜ r ≡ readingFrom 9 (now (file .entry)) job ⌝ }
+{
+    if action_wrong(file, job) {
+        return Reading::Refused(10);
+    }
+    if target_wrong(file, job) {
+        return Reading::Refused(11);
+    }
+    Reading::Job(job)
 }

@@ -6,7 +6,7 @@ use mathlib.Core.Bool.{Bool, false}
 use borrow.Author.Tests.{ltb-false}
 use lib.Dec.{ltb}
 use lib.ListN.{length}
-use Rattle.job_file.proofs.HeadLaws.{neither, laid}
+use Rattle.job_rules.proofs.HeadLaws.{neither, laid}
 use Rattle.job_file.proofs.ReadingLaws.{by-head}
 use Rattle.job_file.proofs.read_job.Statement.{statement}
 use Rattle.job_file.proofs.read_job.Tie as tie

@@ -1,0 +1,44 @@
+-- What the reader answers (document 01, "Job file" and "Who can cause which number").
+use mathlib.Core.Option.{Option, none, some}
+use mathlib.Core.List.{List, [], _∷_}
+use Prim.Native.Nat.{ℕ}
+use lib.ListN.{drop}
+use Rattle.lamp_line.specs.Refusals.{Rule, _when_, refusal}
+use Rattle.job_layout.specs.declared.Job.{Job}
+use Rattle.job_layout.specs.Layout.{head}
+use Rattle.job_rules.specs.Rules.{sizeWrong, numberWrong, pairWrong, lengthWrong, markWrong, cellWrong, endWrong, startWrong, goalWrong, actionWrong, targetWrong}
+use Rattle.job_file.specs.declared.Reading.{Reading}
+use Rattle.job_file.specs.declared.Reading.the-variants as reading
+
+-- Refusals 1 to 11, for a file s with the head j.
+abbrev pub rules : List ℕ → Job → List Rule
+rules s j =
+    (1 when sizeWrong s) ∷
+    (2 when numberWrong s j) ∷
+    (3 when pairWrong s j) ∷
+    (4 when lengthWrong j) ∷
+    (5 when markWrong s j) ∷
+    (6 when cellWrong s j) ∷
+    (7 when endWrong s j) ∷
+    (8 when startWrong s j) ∷
+    (9 when goalWrong s j) ∷
+    (10 when actionWrong s j) ∷
+    (11 when targetWrong s j) ∷
+    []
+
+-- The refusals of a file, which every operation gives before its own.
+abbrev pub fileRules : List ℕ → List Rule
+fileRules s = rules s (head s)
+
+abbrev pub readingUnless : Option ℕ → Job → Reading
+readingUnless none j = reading.Job j
+readingUnless (some number) j = reading.Refused number
+
+-- "The reader answers bytes 0 to 5 and the five pairs as numbers, or a refusal": "the lowest number that applies is given, and
+-- only if its condition holds".
+unfoldable pub readingOf : List ℕ → Reading
+readingOf s = readingUnless (refusal (fileRules s)) (head s)
+
+-- The same for a file to which the first n rules do not apply.
+unfoldable pub readingFrom : ℕ → List ℕ → Job → Reading
+readingFrom n s j = readingUnless (refusal (drop n (rules s j))) j

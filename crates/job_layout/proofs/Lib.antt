@@ -1,0 +1,2 @@
+pub mod BenchRuns
+pub mod Bounds

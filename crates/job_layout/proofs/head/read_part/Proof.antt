@@ -1,0 +1,19 @@
+-- The two words are those of the pair.
+use borrow.Author.Needs.{needs}
+use Rattle.job_layout.proofs.head.read_part.Statement.{statement}
+use Rattle.job_layout.proofs.head.read_part.Tie as tie
+
+read-word-requires : tie.Need-read-word-requires
+read-word-requires c κs = search needs
+
+add-read-word : tie.Need-add-read-word
+add-read-word c = search needs
+
+read-word-requires-2 : tie.Need-read-word-requires-2
+read-word-requires-2 c κs = search needs
+
+returns : tie.Need-returns
+returns c = cc
+
+pub read-part-spec : {M : Type 1} → statement M
+read-part-spec = tie.close (tie.spec read-word-requires add-read-word read-word-requires-2 returns)

@@ -1,0 +1,86 @@
+-- The layout of a job file (document 01, "Job file"): its head, the lengths that its parts must have, and the place of each entry.
+-- A file is the list of its bytes.
+use mathlib.Core.List.{List}
+use Prim.Native.Nat.{ℕ, _+_, _*_}
+use lib.ListN.{getD}
+use Rattle.plans.specs.Plan.{Action, Result}
+use Rattle.lamp_line.specs.declared.ProgramState.{ProgramState}
+use Rattle.lamp_line.specs.declared.WorldState.{WorldState}
+use Rattle.lamp_line.specs.Tables.{programState, columns}
+use Rattle.job_layout.specs.declared.Part.{Part}
+use Rattle.job_layout.specs.declared.Job.{Job}
+
+abbrev pub byte : List ℕ → ℕ → ℕ
+byte s i = getD s i 0
+
+-- "16-bit numbers least significant byte first."
+abbrev pub word : List ℕ → ℕ → ℕ
+word s i = byte s i + 256 * byte s (i + 1)
+
+-- A pair "of offset and length, 16 bits each".
+abbrev pub part : List ℕ → ℕ → Part
+part s i = record { offset = word s i; length = word s (i + 2) }
+
+-- Bytes 0 to 5, and the five pairs of bytes 8 to 27.
+abbrev pub head : List ℕ → Job
+head s =
+    record {
+      actions = byte s 0;
+      worlds = byte s 1;
+      kinds = byte s 2;
+      results = byte s 3;
+      states = byte s 4;
+      first = programState (byte s 5);
+      marks = part s 8;
+      cells = part s 12;
+      starts = part s 16;
+      goal = part s 20;
+      plan = part s 24
+    }
+
+-- ---- the length that each part must have
+
+abbrev pub marksLength : Job → ℕ
+marksLength j = j .actions
+
+-- How many cells there are; each takes two bytes.
+abbrev pub cellCount : Job → ℕ
+cellCount j = j .actions * j .worlds * columns (j .kinds)
+
+abbrev pub cellsLength : Job → ℕ
+cellsLength j = 2 * cellCount j
+
+abbrev pub startsLength : Job → ℕ
+startsLength j = j .worlds
+
+abbrev pub goalLength : Job → ℕ
+goalLength j = j .worlds * columns (j .kinds)
+
+abbrev pub planLength : Job → ℕ
+planLength j = j .states * (1 + j .results)
+
+-- ---- the place of each entry in the file
+
+abbrev pub markPlace : Job → Action → ℕ
+markPlace j a = j .marks .offset + a
+
+-- "Cell (a, w, c) at 2·((a·W + w)·(C+1) + c): next world state, then result."
+abbrev pub nextPlace : Job → Action → WorldState → ℕ → ℕ
+nextPlace j a w c = j .cells .offset + 2 * ((a * j .worlds + w .0) * columns (j .kinds) + c)
+
+abbrev pub resultPlace : Job → Action → WorldState → ℕ → ℕ
+resultPlace j a w c = nextPlace j a w c + 1
+
+abbrev pub startPlace : Job → WorldState → ℕ
+startPlace j w = j .starts .offset + w .0
+
+-- "At w·(C+1) + c."
+abbrev pub goalPlace : Job → WorldState → ℕ → ℕ
+goalPlace j w c = j .goal .offset + (w .0 * columns (j .kinds) + c)
+
+-- "For each state its action, then a target for each result."
+abbrev pub actionPlace : Job → ProgramState → ℕ
+actionPlace j q = j .plan .offset + q .0 * (1 + j .results)
+
+abbrev pub targetPlace : Job → ProgramState → Result → ℕ
+targetPlace j q r = actionPlace j q + 1 + r

@@ -1,0 +1,4 @@
+pub mod BenchLine
+pub mod JobTables
+pub mod Laid
+pub mod Layout
