@@ -1,1 +1,3 @@
+pub mod NoneApplies
 pub mod ReadingLaws
+pub mod WellFormed

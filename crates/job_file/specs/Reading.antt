@@ -1,4 +1,5 @@
 -- What the reader answers (document 01, "Job file" and "Who can cause which number").
+use mathlib.Core.Path.{_≡_}
 use mathlib.Core.Option.{Option, none, some}
 use mathlib.Core.List.{List, [], _∷_}
 use Prim.Native.Nat.{ℕ}
@@ -42,3 +43,7 @@ readingOf s = readingUnless (refusal (fileRules s)) (head s)
 -- The same for a file to which the first n rules do not apply.
 unfoldable pub readingFrom : ℕ → List ℕ → Job → Reading
 readingFrom n s j = readingUnless (refusal (drop n (rules s j))) j
+
+-- The file is not refused, and the reader answers this job.
+abbrev pub Opened : List ℕ → Job → Type 0
+Opened s j = readingOf s ≡ reading.Job j

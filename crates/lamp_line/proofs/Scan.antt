@@ -1,6 +1,6 @@
 -- A loop that looks for a number below n with a property, from 0 upwards: what it knows on the way, and what its answer says.
 use mathlib.Core.Path.{_≡_, refl, sym, subst, _∙_}
-use mathlib.Core.Bool.{Bool, true, false, _||_}
+use mathlib.Core.Bool.{Bool, true, false, _||_, false≢true}
 use Prim.Native.Nat.{ℕ, zero, suc, _+_, _≤_, _<_}
 use native.Mathlib.Decide.{ℕ-discrete}
 use native.Mathlib.Numerals.{add-one}
@@ -45,3 +45,14 @@ none-at p n none i i<n = by (p i) refl
     by : (b : Bool) → p i ≡ b → p i ≡ false
     by false e = e
     by true e = e ∙ found-below p n i i<n e ∙ none
+
+-- What a true answer says: some number below n has the property.
+pub some-at : (p : ℕ → Bool) (n : ℕ) → some-below n p ≡ true → (i : ℕ) × (i < n) × (p i ≡ true)
+unfolding some-below
+some-at p zero e = let z : false ≡ true = e in absurd (false≢true z)
+some-at p (suc n) e = at (p n) refl e (some-at p n)
+  where
+    at : (b : Bool) → p n ≡ b → (b || some-below n p) ≡ true →
+      (some-below n p ≡ true → (i : ℕ) × (i < n) × (p i ≡ true)) → (i : ℕ) × (i < suc n) × (p i ≡ true)
+    at true here e earlier = (n, omega arith, here)
+    at false here e earlier = let found = earlier e in (found .0, omega (arith, found .1), found .2)

@@ -1,0 +1,73 @@
+-- Where the reader answers a job, it is the file's head, and none of the eleven rules applies.
+use mathlib.Core.Path.{_≡_, refl, sym, ap, _∙_, subst}
+use mathlib.Core.Bool.{Bool, true, false}
+use mathlib.Core.Option.{Option, none, some}
+use mathlib.Core.List.{List, [], _∷_}
+use Prim.Native.Nat.{ℕ}
+use native.Mathlib.Omega.{arith}
+use Rattle.lamp_line.specs.Refusals.{Rule, _when_, refusal}
+use Rattle.job_layout.specs.declared.Job.{Job}
+use Rattle.job_layout.specs.Layout.{head}
+use Rattle.job_rules.specs.Rules.{sizeWrong, numberWrong, pairWrong, lengthWrong, markWrong, cellWrong, endWrong, startWrong, goalWrong, actionWrong, targetWrong}
+use Rattle.job_file.specs.declared.Reading.{Reading}
+use Rattle.job_file.specs.declared.Reading.the-variants as reading
+use Rattle.job_file.specs.Reading.{rules, fileRules, readingUnless, readingOf, Opened}
+
+pub record NoneApplies (s : List ℕ) (j : Job) : Type 0 where
+  pub is-head : j ≡ head s
+  pub size : sizeWrong s ≡ false
+  pub numbers : numberWrong s j ≡ false
+  pub pairs : pairWrong s j ≡ false
+  pub lengths : lengthWrong j ≡ false
+  pub marks : markWrong s j ≡ false
+  pub cells : cellWrong s j ≡ false
+  pub ends : endWrong s j ≡ false
+  pub starts : startWrong s j ≡ false
+  pub goals : goalWrong s j ≡ false
+  pub actions : actionWrong s j ≡ false
+  pub targets : targetWrong s j ≡ false
+
+answered : (o : Option ℕ) (h j : Job) → readingUnless o h ≡ reading.Job j → (o ≡ none) × (j ≡ h)
+answered none h j e = (refl, cc)
+answered (some number) h j e = absurd (let z : _≡_ {A = ℕ} 0 1 = cc in omega arith)
+
+-- A list of rules none of which applies: the first does not, and none of the others does.
+past : (number : ℕ) (applies : Bool) (more : List Rule) → refusal ((number when applies) ∷ more) ≡ none →
+  (applies ≡ false) × (refusal more ≡ none)
+unfolding refusal
+past number true more e = absurd (let z : _≡_ {A = ℕ} 0 1 = cc in omega arith)
+past number false more e = (refl, e)
+
+none-of : (s : List ℕ) (j : Job) → j ≡ head s → refusal (rules s j) ≡ none → NoneApplies s j
+none-of s j is-head e =
+    let r₁ = past _ _ _ e in
+    let r₂ = past _ _ _ (r₁ .1) in
+    let r₃ = past _ _ _ (r₂ .1) in
+    let r₄ = past _ _ _ (r₃ .1) in
+    let r₅ = past _ _ _ (r₄ .1) in
+    let r₆ = past _ _ _ (r₅ .1) in
+    let r₇ = past _ _ _ (r₆ .1) in
+    let r₈ = past _ _ _ (r₇ .1) in
+    let r₉ = past _ _ _ (r₈ .1) in
+    let r₁₀ = past _ _ _ (r₉ .1) in
+    let r₁₁ = past _ _ _ (r₁₀ .1) in
+    record {
+      is-head = is-head;
+      size = r₁ .0;
+      numbers = r₂ .0;
+      pairs = r₃ .0;
+      lengths = r₄ .0;
+      marks = r₅ .0;
+      cells = r₆ .0;
+      ends = r₇ .0;
+      starts = r₈ .0;
+      goals = r₉ .0;
+      actions = r₁₀ .0;
+      targets = r₁₁ .0
+    }
+
+pub none-applies : (s : List ℕ) (j : Job) → Opened s j → NoneApplies s j
+unfolding readingOf
+none-applies s j opened =
+    let a = answered (refusal (fileRules s)) (head s) j opened in
+    none-of s j (a .1) (subst (λ (h : Job). refusal (rules s h) ≡ none) (sym (a .1)) (a .0))

@@ -1,0 +1,244 @@
+-- The one law on what is known of a file that is not refused: its head is laid out as it must be, and its tables are well formed.
+use mathlib.Core.Path.{_≡_, refl, sym, ap, _∙_, subst}
+use mathlib.Core.Logic.{_⊎_, inl, inr}
+use mathlib.Core.Bool.{Bool, true, false, cond, _&&_, _||_, not}
+use mathlib.Core.Option.{Option, none, some}
+use mathlib.Core.List.{List, [], _∷_}
+use Prim.Native.Nat.{ℕ, _+_, _*_, _≤_, _<_}
+use native.Mathlib.Omega.{arith}
+use borrow.Author.Tests.{ltb-true, ltb-false, lt-ltb, leb-false, not-false}
+use lib.Arith.{digits-lt}
+use lib.Dec.{eqb, leb, ltb}
+use lib.ListN.{length}
+use Rattle.plans.specs.Plan.{Action, Result}
+use Rattle.lamp_line.specs.declared.ProgramState.{ProgramState}
+use Rattle.lamp_line.specs.declared.WorldState.{WorldState}
+use Rattle.lamp_line.specs.Lists.{_∈_}
+use Rattle.lamp_line.specs.Tables.{Outcome, outcome, Tables, WellFormed, programState, worldState, movesOn, columns, endKinds}
+use Rattle.lamp_line.specs.Refusals.{some-below}
+use Rattle.lamp_line.proofs.Scan.{none-at, some-at}
+use Rattle.job_layout.specs.declared.Job.{Job}
+use Rattle.job_layout.specs.Layout.{byte, head, markPlace, nextPlace, resultPlace, startPlace, actionPlace, targetPlace}
+use Rattle.job_layout.specs.JobTables.{outcomes, branch, tablesBy, tablesOf}
+use Rattle.job_layout.specs.Laid.{Laid}
+use Rattle.job_rules.specs.Rules.{notBit, isSet, cellWrongIn, cellWrongAt, legalAtEnd, movesOnAtEnd, actionWrongAt, targetWrongAt, rowWrong}
+use Rattle.job_rules.proofs.HeadLaws.{neither, laid}
+use Rattle.job_file.specs.Reading.{Opened}
+use Rattle.job_file.proofs.NoneApplies.{NoneApplies, none-applies}
+
+-- ---- truth values
+
+-- A conjunction that is true is true on both sides.
+both : (a b : Bool) → (a && b) ≡ true → (a ≡ true) × (b ≡ true)
+both true b e = (refl, e)
+both false b e = let z : false ≡ true = e in (z, cc)
+
+-- A conjunction that is false, with its first side true.
+second : (a b : Bool) → (a && b) ≡ false → a ≡ true → b ≡ false
+second true b e t = e
+second false b e t = cc
+
+-- A conjunction with a negation that is false, and what is negated does not hold.
+unless : (a b : Bool) → (a && not b) ≡ false → b ≡ false → a ≡ false
+unless true b e f = sym (ap not f) ∙ e
+unless false b e f = refl
+
+-- ---- what a cell, a mark and a row of an accepted file hold
+
+-- A cell that is not wrong: its next world state is one of the world states, and a result that is not 255 is one of the results.
+cell-next : (worlds results next result : ℕ) → cellWrongIn worlds results next result ≡ false → next < worlds
+cell-next worlds results next result e = leb-false _ _ (neither _ _ (neither _ _ e .0) .0)
+
+cell-result : (worlds results next result : ℕ) → cellWrongIn worlds results next result ≡ false → eqb result 255 ≡ false →
+  result < results
+cell-result worlds results next result e legal =
+    let tests = neither (leb worlds next || leb results result && not (eqb result 255)) _ e in
+    leb-false _ _ (unless (leb results result) (eqb result 255) (neither (leb worlds next) _ (tests .0) .1) legal)
+
+only : (x y : Outcome) → x ∈ (y ∷ []) → x ≡ y
+unfolding _∈_
+only x y (inl e) = e
+only x y (inr h) = absurd h
+
+-- What an outcome in the cell of a file's tables says of the cell's bytes.
+pub record LegalCell (s : List ℕ) (j : Job) (a : Action) (w : WorldState) (c : ℕ) (w′ : WorldState) (r : Result) : Type 0 where
+  pub action-in : a < j .actions
+  pub world-in : w .0 < j .worlds
+  pub column-in : c < columns (j .kinds)
+  pub legal : eqb (byte s (resultPlace j a w c)) 255 ≡ false
+  pub next : w′ .0 ≡ byte s (nextPlace j a w c)
+  pub result : r ≡ byte s (resultPlace j a w c)
+
+module _ (s : List ℕ) (j : Job) where
+  legal-cell : (a : Action) (w w′ : WorldState) (c : ℕ) (r : Result) → outcome w′ r ∈ tablesBy s j .cell a w c →
+    LegalCell s j a w c w′ r
+  unfolding _∈_
+  legal-cell a w w′ c r = in-range (ltb a (j .actions) && ltb (w .0) (j .worlds) && ltb c (columns (j .kinds))) refl
+    where
+      is-legal : (b : Bool) → eqb (byte s (resultPlace j a w c)) 255 ≡ b →
+        ltb a (j .actions) && ltb (w .0) (j .worlds) && ltb c (columns (j .kinds)) ≡ true →
+        outcome w′ r ∈ cond b [] (outcome (worldState (byte s (nextPlace j a w c))) (byte s (resultPlace j a w c)) ∷ []) →
+        LegalCell s j a w c w′ r
+      is-legal true e t m = absurd m
+      is-legal false e t m =
+          let is = only _ _ m in
+          let tests = both _ _ t in
+          let two = both _ _ (tests .0) in
+          record {
+            action-in = ltb-true _ _ (two .0);
+            world-in = ltb-true _ _ (two .1);
+            column-in = ltb-true _ _ (tests .1);
+            legal = e;
+            next = cc;
+            result = cc
+          }
+      in-range : (b : Bool) → ltb a (j .actions) && ltb (w .0) (j .worlds) && ltb c (columns (j .kinds)) ≡ b →
+        outcome w′ r ∈ cond b (outcomes (byte s (nextPlace j a w c)) (byte s (resultPlace j a w c))) [] → LegalCell s j a w c w′ r
+      in-range true e m = is-legal (eqb (byte s (resultPlace j a w c)) 255) refl e m
+      in-range false e m = absurd m
+
+  module _ (none-applies : NoneApplies s j) (laid : Laid s j) where
+    mark-bit : (a : Action) → a < j .actions → byte s (markPlace j a) ≤ 1
+    mark-bit a a< = ltb-false _ _ (none-at (notBit s (j .marks .offset)) (j .actions) (none-applies .marks) a a<)
+
+    cell-right : (a : Action) (w : WorldState) (c : ℕ) → a < j .actions → w .0 < j .worlds → c < columns (j .kinds) →
+      cellWrongIn (j .worlds) (j .results) (byte s (nextPlace j a w c)) (byte s (resultPlace j a w c)) ≡ false
+    cell-right a w c a< w< c< =
+        let row = digits-lt {q = a} {m = j .actions} {r = w .0} {c = j .worlds} a< w< in
+        none-at (cellWrongAt s (j .cells .offset) (j .worlds) (j .results)) (j .actions * j .worlds * columns (j .kinds))
+        (none-applies .cells) ((a * j .worlds + w .0) * columns (j .kinds) + c) (digits-lt row c<)
+
+    -- An action that moves on has 255 for its result in column 0.
+    end-result : (a : Action) (w : ℕ) → a < j .actions → w < j .worlds → eqb (byte s (markPlace j a)) 1 ≡ true →
+      eqb (byte s (resultPlace j a (worldState w) 0)) 255 ≡ true
+    end-result a w a< w< moves =
+        let here = none-at (movesOnAtEnd s j) (j .actions) (none-applies .ends) a a< in
+        let nowhere = second _ _ here moves in
+        not-false _ (none-at (legalAtEnd s j a) (j .worlds) nowhere w w<)
+
+    target-right : (q : ProgramState) (r : Result) → q .0 < j .states → r < j .results →
+      eqb (byte s (targetPlace j q r)) 255 ≡ false → byte s (targetPlace j q r) ≤ j .states
+    target-right q r q< r< branched =
+        let row = none-at (rowWrong s j) (j .states) (none-applies .targets) (q .0) q< in
+        let here = none-at (targetWrongAt s (actionPlace j q + 1) (j .states)) (j .results) row r r< in
+        ltb-false _ _ (unless _ (eqb (byte s (targetPlace j q r)) 255) here branched)
+
+    -- ---- the fields of WellFormed
+
+    mark-range : (a : Action) → tablesBy s j .mark a ≤ 1
+    mark-range a = by (ltb a (j .actions)) refl
+      where
+        by : (b : Bool) → ltb a (j .actions) ≡ b → cond b (byte s (markPlace j a)) 0 ≤ 1
+        by true e = mark-bit a (ltb-true _ _ e)
+        by false e = omega arith
+
+    single : (a : Action) (w : WorldState) (c : ℕ) → length (tablesBy s j .cell a w c) ≤ 1
+    single a w c = in-range (ltb a (j .actions) && ltb (w .0) (j .worlds) && ltb c (columns (j .kinds)))
+      where
+        is-legal : (b : Bool) (x : Outcome) → length (cond b [] (x ∷ [])) ≤ 1
+        is-legal true x = omega arith
+        is-legal false x = omega arith
+        in-range : (b : Bool) →
+          length (cond b (outcomes (byte s (nextPlace j a w c)) (byte s (resultPlace j a w c))) []) ≤ 1
+        in-range true = is-legal (eqb (byte s (resultPlace j a w c)) 255) _
+        in-range false = omega arith
+
+    next-range : (a : Action) (w w′ : WorldState) (c : ℕ) (r : Result) → outcome w′ r ∈ tablesBy s j .cell a w c →
+      w′ .0 < j .worlds
+    next-range a w w′ c r m =
+        let cell = legal-cell a w w′ c r m in
+        rw (cell .next) (cell-next (j .worlds) (j .results) _ (byte s (resultPlace j a w c)) (cell-right a w c (cell .action-in) (cell .world-in) (cell .column-in)))
+
+    result-range : (a : Action) (w w′ : WorldState) (c : ℕ) (r : Result) → outcome w′ r ∈ tablesBy s j .cell a w c →
+      r < j .results
+    result-range a w w′ c r m =
+        let cell = legal-cell a w w′ c r m in
+        rw (cell .result)
+        (cell-result (j .worlds) (j .results) (byte s (nextPlace j a w c)) _ (cell-right a w c (cell .action-in) (cell .world-in) (cell .column-in)) (cell .legal))
+
+    -- In column 0, for an action that is marked as moving on.
+    no-outcome : (a : Action) (w : WorldState) → a < j .actions → eqb (byte s (markPlace j a)) 1 ≡ true →
+      tablesBy s j .cell a w 0 ≡ []
+    no-outcome a w a< moves = in-range (ltb a (j .actions) && ltb (w .0) (j .worlds) && ltb 0 (columns (j .kinds))) refl
+      where
+        in-range : (b : Bool) → ltb a (j .actions) && ltb (w .0) (j .worlds) && ltb 0 (columns (j .kinds)) ≡ b →
+          cond b (outcomes (byte s (nextPlace j a w 0)) (byte s (resultPlace j a w 0))) [] ≡ []
+        in-range true e =
+            let w< = ltb-true _ _ (both (ltb a (j .actions)) _ (both _ (ltb 0 (columns (j .kinds))) e .0) .1) in
+            rw (end-result a (w .0) a< w< moves)
+        in-range false e = refl
+
+    end-stays : (a : Action) (w : WorldState) (c : ℕ) → movesOn (tablesBy s j) a ≡ true → c < endKinds (tablesBy s j) →
+      tablesBy s j .cell a w c ≡ []
+    unfolding endKinds
+    end-stays a w c moves c< = let at-end : c ≡ 0 = omega arith in rw at-end (by (ltb a (j .actions)) refl moves)
+      where
+        by : (b : Bool) → ltb a (j .actions) ≡ b → eqb (cond b (byte s (markPlace j a)) 0) 1 ≡ true →
+          tablesBy s j .cell a w 0 ≡ []
+        by true e m = no-outcome a w (ltb-true _ _ e) m
+        by false e m = let z : false ≡ true = m in cc
+
+    some-start : (w : WorldState) × (tablesBy s j .start w ≡ true)
+    some-start =
+        let one-set =
+            not-false _ (neither (some-below (j .worlds) (notBit s (j .starts .offset))) _ (none-applies .starts) .1) in
+        let found = some-at (isSet s (j .starts .offset)) (j .worlds) one-set in
+        (worldState (found .0), rw (lt-ltb _ _ (found .1)) (found .2))
+
+    action-range : (q : ProgramState) → q .0 < j .states → tablesBy s j .action q < j .actions
+    action-range q q< = leb-false _ _ (none-at (actionWrongAt s j) (j .states) (none-applies .actions) (q .0) q<)
+
+    target-range : (q q′ : ProgramState) (r : Result) → tablesBy s j .target q r ≡ some q′ →
+      (r < j .results) × (q′ .0 ≤ j .states)
+    target-range q q′ r = in-range (ltb (q .0) (j .states) && ltb r (j .results)) refl
+      where
+        is-branch : (b : Bool) → eqb (byte s (targetPlace j q r)) 255 ≡ b → q .0 < j .states → r < j .results →
+          cond b none (some (programState (byte s (targetPlace j q r)))) ≡ some q′ → (r < j .results) × (q′ .0 ≤ j .states)
+        is-branch true e q< r< t = absurd (let z : _≡_ {A = ℕ} 0 1 = cc in omega arith)
+        is-branch false e q< r< t =
+            let is : byte s (targetPlace j q r) ≡ q′ .0 = cc in
+            (r<, rw (sym is) (target-right q r q< r< e))
+        in-range : (b : Bool) → ltb (q .0) (j .states) && ltb r (j .results) ≡ b →
+          cond b (branch (byte s (targetPlace j q r))) none ≡ some q′ → (r < j .results) × (q′ .0 ≤ j .states)
+        in-range true e t =
+            let tests = both _ _ e in
+            is-branch (eqb (byte s (targetPlace j q r)) 255) refl (ltb-true _ _ (tests .0)) (ltb-true _ _ (tests .1)) t
+        in-range false e t = absurd (let z : _≡_ {A = ℕ} 0 1 = cc in omega arith)
+
+    tables-well-formed : WellFormed (tablesBy s j)
+    tables-well-formed =
+        record {
+          actions-range = laid .actions-range;
+          worlds-range = laid .worlds-range;
+          kinds-range = laid .kinds-range;
+          results-range = laid .results-range;
+          states-range = laid .states-range;
+          first-range = laid .first-range;
+          mark-range = mark-range;
+          single = single;
+          next-range = next-range;
+          result-range = result-range;
+          end-stays = end-stays;
+          start-range = λ w set. ltb-true _ _ (both _ _ set .0);
+          some-start = some-start;
+          action-range = action-range;
+          target-range = target-range
+        }
+
+-- ---- the law
+
+pub record Sound (s : List ℕ) (j : Job) : Type 0 where
+  pub is-head : j ≡ head s
+  pub laid : Laid s j
+  pub well-formed : WellFormed (tablesOf s)
+
+-- What every crate above knows of a file that is not refused.
+pub sound : (s : List ℕ) (j : Job) → Opened s j → Sound s j
+sound s j opened =
+    let none = none-applies s j opened in
+    let placed = laid s j (none .numbers) (none .pairs) (none .lengths) in
+    record {
+      is-head = none .is-head;
+      laid = placed;
+      well-formed = subst (λ (h : Job). WellFormed (tablesBy s h)) (none .is-head) (tables-well-formed s j none placed)
+    }
