@@ -1,0 +1,4 @@
+pub mod Following
+pub mod ReadsPlan
+pub mod Replies
+pub mod Serving
