@@ -1,3 +1,4 @@
+pub mod BenchReading
 pub mod NoneApplies
 pub mod ReadingLaws
 pub mod WellFormed

@@ -50,10 +50,12 @@ fn read_parts(file: &[u8], job: Job) -> Reading
     if mark_wrong(file, job) {
         return Reading::Refused(5);
     }
-    if cell_wrong(file, job) {
+    let cells = cell_wrong(file, job);
+    let ends = end_wrong(file, job);
+    if cells {
         return Reading::Refused(6);
     }
-    if end_wrong(file, job) {
+    if ends {
         return Reading::Refused(7);
     }
     read_starts_and_goal(file, job)
@@ -76,10 +78,12 @@ fn read_plan(file: &[u8], job: Job) -> Reading
     requires { ⌜ Laid (now file) job ⌝ }
     ensures { λ r. ⌜ r ≡ readingFrom 9 (now (file .entry)) job ⌝ }
 {
-    if action_wrong(file, job) {
+    let actions = action_wrong(file, job);
+    let targets = target_wrong(file, job);
+    if actions {
         return Reading::Refused(10);
     }
-    if target_wrong(file, job) {
+    if targets {
         return Reading::Refused(11);
     }
     Reading::Job(job)

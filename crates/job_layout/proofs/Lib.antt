@@ -1,2 +1,3 @@
+pub mod BenchCabinet
 pub mod BenchRuns
 pub mod Bounds

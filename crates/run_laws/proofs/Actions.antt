@@ -22,7 +22,7 @@ use Rattle.lamp_line.specs.Tables.{passed, restAfter, lampTheory, lampProblem, 
 use Rattle.lamp_line.specs.Endings.{Ends}
 use Rattle.lamp_line.specs.Check.{situation}
 use Rattle.lamp_line.specs.Run.{Pair, pair, Move, ends, stays, passes, isFinal, judged, branched, tried, act}
-use Rattle.run_laws.proofs.Executions.{Halted}
+use Rattle.plans.proofs.Executions.{Halted}
 use Rattle.run_laws.proofs.Pairs.{InRange}
 use Rattle.run_laws.proofs.Steps.{none-in-empty, one-outcome, step-in-range}
 

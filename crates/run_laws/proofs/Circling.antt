@@ -12,8 +12,8 @@ use Rattle.lamp_line.specs.declared.ProgramState.{ProgramState}
 use Rattle.lamp_line.specs.Tables.{Tables, Line, Situation, WellFormed, programState, final, column, lampTheory, planOf}
 use Rattle.lamp_line.specs.Check.{situation}
 use Rattle.lamp_line.specs.Run.{Pair, Move, ends, stays, passes, act}
-use Rattle.run_laws.proofs.Pigeonhole.{Repeat, pigeonhole}
-use Rattle.run_laws.proofs.Executions.{first-steps, same-length-same-execution}
+use Rattle.plans.proofs.Pigeonhole.{Repeat, pigeonhole}
+use Rattle.plans.proofs.Executions.{first-steps, same-length-same-execution}
 use Rattle.run_laws.proofs.Pairs.{InRange, pairNumber, pair-number-bound, pair-number-injective}
 use Rattle.run_laws.proofs.Steps.{steps-determined}
 use Rattle.run_laws.proofs.Actions.{StepAt, MoveMeans, is-final, act-final, act-means, stays-in-range}

@@ -1,10 +1,8 @@
 pub mod Actions
 pub mod Circling
-pub mod Executions
 pub mod LoopLaws
 pub mod OneEnding
 pub mod Pairs
-pub mod Pigeonhole
 pub mod RunComes
 pub mod RunIsExecution
 pub mod Runs

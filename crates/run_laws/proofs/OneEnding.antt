@@ -18,8 +18,8 @@ use Rattle.lamp_line.specs.Endings.{Ends}
 use Rattle.lamp_line.specs.Check.{situation, Arrival}
 use Rattle.lamp_line.specs.Run.{ownSteps}
 use Rattle.lamp_line.specs.Promises.{Run-of, RestsAfter, CirclesAfter, Comes}
-use Rattle.run_laws.proofs.Executions.{LastStep, last-step, forever-before, shared-beginning}
-use Rattle.run_laws.proofs.Executions.{same-length-same-execution, Halted, longest, halted-not-forever}
+use Rattle.plans.proofs.Executions.{LastStep, last-step, forever-before, shared-beginning}
+use Rattle.plans.proofs.Executions.{same-length-same-execution, Halted, longest, halted-not-forever}
 use Rattle.run_laws.proofs.Steps.{steps-determined, end-kept, step-passes}
 use Rattle.run_laws.proofs.Actions.{ends-halted, one-ending}
 

@@ -9,7 +9,7 @@ use Rattle.lamp_line.specs.Tables.{Tables, WellFormed, lampTheory, planOf}
 use Rattle.lamp_line.specs.Check.{situation}
 use Rattle.lamp_line.specs.Run.{Run, ran, run}
 use Rattle.lamp_line.specs.Promises.{Comes, Deterministic, RunIsExecution, CirclesForever}
-use Rattle.run_laws.proofs.Executions.{same-length-same-execution}
+use Rattle.plans.proofs.Executions.{same-length-same-execution}
 use Rattle.run_laws.proofs.Steps.{steps-determined}
 use Rattle.run_laws.proofs.RunComes.{run-comes}
 use Rattle.run_laws.proofs.OneEnding.{comes-once, circles-from-start, forever-circles}

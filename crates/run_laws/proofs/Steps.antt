@@ -15,7 +15,7 @@ use Rattle.lamp_line.specs.Lists.{_∈_}
 use Rattle.lamp_line.specs.Tables.{outcome, Tables, Situation, WellFormed, movesOn, endKinds, column, passed, lampTheory, planOf}
 use Rattle.lamp_line.specs.Check.{situation}
 use Rattle.lamp_line.specs.Run.{pair}
-use Rattle.run_laws.proofs.Executions.{StepsDetermined}
+use Rattle.plans.proofs.Executions.{StepsDetermined}
 use Rattle.run_laws.proofs.Pairs.{InRange}
 
 -- Nothing is in an empty list.

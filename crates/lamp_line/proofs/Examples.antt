@@ -1,0 +1,99 @@
+-- The definition of a run on small tables, each example computed. They tell the definition from near ones: a counter that is not
+-- started anew at each lamp, failure 3 tested before state S or by the program state alone, a goal judged without its column.
+use mathlib.Core.Path.{_≡_, refl}
+use mathlib.Core.Bool.{Bool, true, false, cond}
+use mathlib.Core.Option.{Option, none, some}
+use mathlib.Core.List.{List, [], _∷_}
+use Prim.Native.Nat.{ℕ, _+_}
+use lib.Dec.{eqb, ltb}
+use Rattle.plans.specs.Plan.{Action, Result}
+use Rattle.lamp_line.specs.declared.ProgramState.{ProgramState}
+use Rattle.lamp_line.specs.declared.WorldState.{WorldState}
+use Rattle.lamp_line.specs.declared.FailureKind.the-variants.{NoBranch, Circles, GoalFalse}
+use Rattle.lamp_line.specs.declared.Ending.the-variants.{Goal, Failure}
+use Rattle.lamp_line.specs.Tables.{Outcome, outcome, Tables, programState, worldState, lampColumn}
+use Rattle.lamp_line.specs.Run.{Run, ran, within, stopped, ownSteps, act, walk, along, run, limited}
+
+-- Two actions, of which action 1 moves on; one kind, two results; start 0, first state 0.
+abbrev small :
+  ℕ → ℕ → (Action → WorldState → ℕ → List Outcome) → (WorldState → ℕ → Bool) → (ProgramState → Result → Option ProgramState) → Tables
+small worlds states cell goal target =
+    record {
+      actions = 2;
+      worlds = worlds;
+      kinds = 1;
+      results = 2;
+      states = states;
+      first = programState 0;
+      mark = λ a. a;
+      cell = cell;
+      start = λ w. eqb (w .0) 0;
+      goal = goal;
+      action = λ q. q .0;
+      target = target
+    }
+
+abbrev runOn : Tables → List ℕ → Run
+runOn t lamps = run t (worldState 0) (record { lamps = lamps; end = 0 })
+
+-- State 0 ends after one action, which is also the S·W-th.
+abbrev one-step : Tables
+one-step = small 1 1 (λ a w c. outcome w 0 ∷ []) (λ w c. true) (λ q r. some (programState 1))
+
+-- The first state is final, and the goal is true at a lamp only.
+abbrev at-once : Tables
+at-once = small 1 0 (λ a w c. []) (λ w c. eqb c 1) (λ q r. none)
+
+-- State 0 ends after one action, with steps to spare, and the goal is true at a lamp only.
+abbrev stopping : Tables
+stopping = small 1 2 (λ a w c. outcome w 0 ∷ []) (λ w c. eqb c 1) (λ q r. some (programState 2))
+
+-- State 0 is met in worlds 0, 1 and 2, and is left from world 2.
+abbrev counting : Tables
+counting =
+    small 3 1 (λ a w c. cond (ltb (w .0) 2) (outcome (worldState (w .0 + 1)) 0 ∷ []) (outcome w 1 ∷ []))
+    (λ w c. true)
+    (λ q r. cond (eqb r 0) (some (programState 0)) (some (programState 1)))
+
+-- State 0 looks whether a lamp is there, state 1 moves on: two steps a lamp, and S·W is 2.
+abbrev passing : Tables
+passing =
+    small 1 2 (λ a w c. cond (eqb a 0) (outcome w c ∷ []) (outcome w 0 ∷ []))
+    (λ w c. eqb c 0)
+    (λ q r. cond (eqb (q .0) 0) (cond (eqb r 0) (some (programState 2)) (some (programState 1))) (some (programState 0)))
+
+-- State 0 stays at itself.
+abbrev turning : Tables
+turning = small 1 1 (λ a w c. outcome w 0 ∷ []) (λ w c. true) (λ q r. some (programState 0))
+
+-- State 0 has no branch.
+abbrev branchless : Tables
+branchless = small 1 1 (λ a w c. outcome w 0 ∷ []) (λ w c. true) (λ q r. none)
+
+pub record Examples : Type 0 where
+  pub final-before-circling : runOn one-step [] ≡ ran Goal 1
+  pub goal-by-column : runOn at-once (1 ∷ 1 ∷ 1 ∷ []) ≡ ran Goal 0
+  pub goal-by-column-later : runOn stopping (1 ∷ []) ≡ ran Goal 1
+  pub no-goal-at-end : runOn at-once [] ≡ ran (Failure GoalFalse) 0
+  pub same-state-other-world : runOn counting [] ≡ ran Goal 3
+  pub counted-anew : runOn passing (1 ∷ 1 ∷ []) ≡ ran Goal 5
+  pub circles : runOn turning (1 ∷ []) ≡ ran (Failure Circles) 1
+  pub step-not-counted : runOn branchless [] ≡ ran (Failure NoBranch) 0
+  pub ends-at-limit : limited 5 (runOn passing (1 ∷ 1 ∷ [])) ≡ within Goal 5
+  pub stopped-below : limited 4 (runOn passing (1 ∷ 1 ∷ [])) ≡ stopped 4
+
+pub examples : Examples
+unfolding lampColumn ownSteps act walk along
+examples =
+    record {
+      final-before-circling = refl;
+      goal-by-column = refl;
+      goal-by-column-later = refl;
+      no-goal-at-end = refl;
+      same-state-other-world = refl;
+      counted-anew = refl;
+      circles = refl;
+      step-not-counted = refl;
+      ends-at-limit = refl;
+      stopped-below = refl
+    }

@@ -1,0 +1,2 @@
+pub mod Executions
+pub mod Pigeonhole
