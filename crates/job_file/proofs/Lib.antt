@@ -1,4 +1,5 @@
 pub mod BenchReading
 pub mod NoneApplies
+pub mod Opening
 pub mod ReadingLaws
 pub mod WellFormed

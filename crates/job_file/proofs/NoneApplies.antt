@@ -5,13 +5,13 @@ use mathlib.Core.Option.{Option, none, some}
 use mathlib.Core.List.{List, [], _∷_}
 use Prim.Native.Nat.{ℕ}
 use native.Mathlib.Omega.{arith}
-use Rattle.lamp_line.specs.Refusals.{Rule, _when_, refusal}
+use Rattle.lamp_line.specs.Refusals.{Rule, _when_, refusal, orRefused, answerBy}
 use Rattle.job_layout.specs.declared.Job.{Job}
 use Rattle.job_layout.specs.Layout.{head}
 use Rattle.job_rules.specs.Rules.{sizeWrong, numberWrong, pairWrong, lengthWrong, markWrong, cellWrong, endWrong, startWrong, goalWrong, actionWrong, targetWrong}
 use Rattle.job_file.specs.declared.Reading.{Reading}
 use Rattle.job_file.specs.declared.Reading.the-variants as reading
-use Rattle.job_file.specs.Reading.{rules, fileRules, readingUnless, readingOf, Opened}
+use Rattle.job_file.specs.Reading.{rules, fileRules, readingOf, Opened}
 
 pub record NoneApplies (s : List ℕ) (j : Job) : Type 0 where
   pub is-head : j ≡ head s
@@ -27,7 +27,7 @@ pub record NoneApplies (s : List ℕ) (j : Job) : Type 0 where
   pub actions : actionWrong s j ≡ false
   pub targets : targetWrong s j ≡ false
 
-answered : (o : Option ℕ) (h j : Job) → readingUnless o h ≡ reading.Job j → (o ≡ none) × (j ≡ h)
+answered : (o : Option ℕ) (h j : Job) → orRefused reading.Refused o (reading.Job h) ≡ reading.Job j → (o ≡ none) × (j ≡ h)
 answered none h j e = (refl, cc)
 answered (some number) h j e = absurd (let z : _≡_ {A = ℕ} 0 1 = cc in omega arith)
 
@@ -67,7 +67,7 @@ none-of s j is-head e =
     }
 
 pub none-applies : (s : List ℕ) (j : Job) → Opened s j → NoneApplies s j
-unfolding readingOf
+unfolding readingOf answerBy
 none-applies s j opened =
     let a = answered (refusal (fileRules s)) (head s) j opened in
     none-of s j (a .1) (subst (λ (h : Job). refusal (rules s h) ≡ none) (sym (a .1)) (a .0))

@@ -1,10 +1,9 @@
 -- What the reader answers (document 01, "Job file" and "Who can cause which number").
 use mathlib.Core.Path.{_≡_}
-use mathlib.Core.Option.{Option, none, some}
 use mathlib.Core.List.{List, [], _∷_}
 use Prim.Native.Nat.{ℕ}
 use lib.ListN.{drop}
-use Rattle.lamp_line.specs.Refusals.{Rule, _when_, refusal}
+use Rattle.lamp_line.specs.Refusals.{Rule, _when_, answerBy}
 use Rattle.job_layout.specs.declared.Job.{Job}
 use Rattle.job_layout.specs.Layout.{head}
 use Rattle.job_rules.specs.Rules.{sizeWrong, numberWrong, pairWrong, lengthWrong, markWrong, cellWrong, endWrong, startWrong, goalWrong, actionWrong, targetWrong}
@@ -31,19 +30,20 @@ rules s j =
 abbrev pub fileRules : List ℕ → List Rule
 fileRules s = rules s (head s)
 
-abbrev pub readingUnless : Option ℕ → Job → Reading
-readingUnless none j = reading.Job j
-readingUnless (some number) j = reading.Refused number
-
 -- "The reader answers bytes 0 to 5 and the five pairs as numbers, or a refusal": "the lowest number that applies is given, and
 -- only if its condition holds".
 unfoldable pub readingOf : List ℕ → Reading
-readingOf s = readingUnless (refusal (fileRules s)) (head s)
+readingOf s = answerBy reading.Refused (fileRules s) (reading.Job (head s))
 
 -- The same for a file to which the first n rules do not apply.
 unfoldable pub readingFrom : ℕ → List ℕ → Job → Reading
-readingFrom n s j = readingUnless (refusal (drop n (rules s j))) j
+readingFrom n s j = answerBy reading.Refused (drop n (rules s j)) (reading.Job j)
 
 -- The file is not refused, and the reader answers this job.
 abbrev pub Opened : List ℕ → Job → Type 0
 Opened s j = readingOf s ≡ reading.Job j
+
+-- The number of a refusal, and 0 where the file is not refused.
+abbrev pub refusalOf : Reading → ℕ
+refusalOf (reading.Job j) = 0
+refusalOf (reading.Refused number) = number

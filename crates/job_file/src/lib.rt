@@ -1,7 +1,7 @@
 // The job file reader (document 01, "Job file"). `read_job` is the operation; it asks nothing of its caller.
 ghost use mathlib.Core.Path.{_≡_};
 ghost use Rattle.job_layout.specs.Laid.{Laid};
-ghost use Rattle.job_file.specs.Reading.{readingOf, readingFrom};
+ghost use Rattle.job_file.specs.Reading.{readingOf, readingFrom, refusalOf};
 use job_layout::head::read_head;
 use job_layout::Job;
 use job_rules::head_rules::length_wrong;
@@ -39,6 +39,16 @@ pub fn read_job(file: &[u8]) -> Reading
         return Reading::Refused(4);
     }
     read_parts(file, job)
+}
+
+// The number of a refusal, which an operation hands on; 0 where the file is not refused.
+pub fn refusal_number(reading: Reading) -> u8
+    ensures { λ r. ⌜ r ≡ refusalOf reading ⌝ }
+{
+    match reading {
+        Reading::Job(_) => 0,
+        Reading::Refused(number) => number,
+    }
 }
 
 // The rest of the reader's tests, once refusals 1 to 4 are out. Each test goes over its whole part before the next begins, so

@@ -1,3 +1,4 @@
+pub mod Answering
 pub mod Examples
 pub mod Products
 pub mod Scan

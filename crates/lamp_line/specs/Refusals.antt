@@ -14,6 +14,14 @@ refusal [] = none
 refusal ((number when true) ∷ rules) = some number
 refusal ((number when false) ∷ rules) = refusal rules
 
+abbrev pub orRefused : {A : Type 0} → (ℕ → A) → Option ℕ → A → A
+orRefused refused none answer = answer
+orRefused refused (some number) answer = refused number
+
+-- What an operation answers: refused with the number of the first rule that applies, or else the answer that it has.
+unfoldable pub answerBy : {A : Type 0} → (ℕ → A) → List Rule → A → A
+answerBy refused rules answer = orRefused refused (refusal rules) answer
+
 -- Some number below n has the property.
 unfoldable pub some-below : ℕ → (ℕ → Bool) → Bool
 some-below zero p = false

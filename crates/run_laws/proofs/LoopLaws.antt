@@ -1,6 +1,6 @@
 -- Laws for loops that count their steps upward: what such a loop still owes of the walk at one lamp, and of the run along the
 -- line. The laws say "k + 1", and have the answer on the left of an equation, as code has them.
-use mathlib.Core.Path.{_≡_, sym, ap, _∙_}
+use mathlib.Core.Path.{_≡_, refl, sym, ap, _∙_}
 use mathlib.Core.Logic.{_≢_}
 use mathlib.Core.Bool.{Bool, true, false, cond}
 use mathlib.Core.List.{List, [], _∷_}
@@ -64,21 +64,13 @@ module _ (t : Tables) (n c : ℕ) (p₀ : Pair) where
     pub walk-owes-ends : k < n → (x : Ending) → ends x ≡ act t p c → ended x (k + ownSteps x) ≡ walk t n p₀ c
     walk-owes-ends h x e = sym (owed-turn h ∙ (rw (walk-ends t (n - (k + 1)) p c x (sym e))))
 
-    owed-last :
-      n ≤ k → (b : Bool) → isFinal t (p .state) ≡ b →
-      ended (cond b (judged t (p .world) c) (Failure Circles)) k ≡ walk t n p₀ c
+    -- All n steps are counted: the run ends, as it does in the final state or else with failure 3.
+    pub walk-owes-spent :
+      n ≤ k → ended (cond (isFinal t (p .state)) (judged t (p .world) c) (Failure Circles)) k ≡ walk t n p₀ c
     unfolding WalkOwes
-    owed-last h b e =
+    walk-owes-spent h =
         let none-left : n - k ≡ 0 = omega arith in
-        sym (owes ∙ (rw (none-left, walk-spent t p c b e, add-zero k)))
-
-    -- All n steps are counted, and the state is final.
-    pub walk-owes-final : n ≤ k → p .state .0 ≡ t .states → ended (judged t (p .world) c) k ≡ walk t n p₀ c
-    walk-owes-final h e = owed-last h true (eq-eqb (p .state .0) (t .states) e)
-
-    -- All n steps are counted, and the state is not final: the plan circles.
-    pub walk-owes-circles : n ≤ k → p .state .0 ≢ t .states → ended (Failure Circles) k ≡ walk t n p₀ c
-    walk-owes-circles h e = owed-last h false (ne-eqb (p .state .0) (t .states) e)
+        sym (owes ∙ (rw (none-left, walk-spent t p c (isFinal t (p .state)) refl, add-zero k)))
 
 -- ---- the run along the line
 

@@ -1,0 +1,85 @@
+-- Pairs by their numbers, and what the fate of a pair says of the one-lamp walk.
+use mathlib.Core.Path.{_≡_, refl, sym, ap, ap₂, _∙_}
+use mathlib.Core.Bool.{true, cond}
+use Prim.Native.Nat.{ℕ, zero, suc, _+_, _*_, _<_}
+use native.Mathlib.Nat.{mul-add-div-right, mul-add-mod-self-right, div-eq-of-lt, mod-eq-of-lt, add-zero}
+use native.Mathlib.Decide.{ℕ-discrete}
+use native.Mathlib.Omega.{arith}
+use borrow.Author.Tests.{eq-eqb}
+use lib.Dec.{eqb}
+use Rattle.lamp_line.specs.declared.FailureKind.{FailureKind}
+use Rattle.lamp_line.specs.declared.FailureKind.the-variants.{NotLegal, NoBranch, Circles, GoalFalse}
+use Rattle.lamp_line.specs.declared.Ending.the-variants.{Goal, Failure}
+use Rattle.lamp_line.specs.Tables.{Tables, programState, worldState}
+use Rattle.lamp_line.specs.Endings.{kindNumber}
+use Rattle.lamp_line.specs.Run.{Pair, pair, Walk, ended, arrived, isFinal, judged, walk, lampWalk}
+use Rattle.run_laws.proofs.Pairs.{InRange, pairNumber, pair-number-bound}
+use Rattle.run_laws.proofs.Actions.{act-final}
+use Rattle.run_laws.proofs.Walks.{walk-spent, walk-ends}
+use Rattle.check_laws.specs.Fates.{pairOf, fails, arrives, fateOf, fate}
+
+-- ---- numbers of failures and of pairs
+
+-- Kinds of failure with one number are one.
+pub kind-number-injective : (kind kind′ : FailureKind) → kindNumber kind ≡ kindNumber kind′ → kind ≡ kind′
+kind-number-injective kind kind′ e = sym (back kind) ∙ ap kindFrom e ∙ back kind′
+  where
+    kindFrom : ℕ → FailureKind
+    kindFrom n = cond (eqb n 1) NotLegal (cond (eqb n 2) NoBranch (cond (eqb n 3) Circles GoalFalse))
+    back : (kind : FailureKind) → kindFrom (kindNumber kind) ≡ kind
+    back NotLegal = refl
+    back NoBranch = refl
+    back Circles = refl
+    back GoalFalse = refl
+
+-- The pair with the number of a pair is that pair.
+pub pair-of-number : (worlds : ℕ) (p : Pair) → p .world .0 < worlds → pairOf worlds (pairNumber worlds p) ≡ p
+unfolding pairOf pairNumber
+pair-of-number worlds p h =
+    ap₂ (λ q w. pair (programState q) (worldState w))
+    (mul-add-div-right (omega arith) (p .state .0) (p .world .0) ∙ (rw (div-eq-of-lt h) (add-zero (p .state .0))))
+    (mul-add-mod-self-right (p .state .0) worlds (p .world .0) ∙ mod-eq-of-lt h)
+
+-- ---- walks and fates
+
+module _ (worlds : ℕ) where
+  -- Where the fate is a failure, the walk ends with it.
+  pub fails-walk : (kind : FailureKind) (v : Walk) → fateOf worlds v ≡ fails kind → (k : ℕ) × (v ≡ ended (Failure kind) k)
+  fails-walk kind (ended Goal k) e = absurd (let z : _≡_ {A = ℕ} 0 1 = cc in omega arith)
+  fails-walk kind (ended (Failure kind′) k) e = (k, cc)
+  fails-walk kind (arrived p k) e = absurd (let z : _≡_ {A = ℕ} 0 1 = cc in omega arith)
+
+  -- Where the fate is an arrival, the walk arrives so.
+  pub arrives-walk :
+    (y : ℕ) (v : Walk) → fateOf worlds v ≡ arrives y → (p : Pair) × (k : ℕ) × (v ≡ arrived p k) × (y ≡ pairNumber worlds p)
+  arrives-walk y (ended Goal k) e = absurd (let z : _≡_ {A = ℕ} 0 1 = cc in omega arith)
+  arrives-walk y (ended (Failure kind) k) e = absurd (let z : _≡_ {A = ℕ} 0 1 = cc in omega arith)
+  arrives-walk y (arrived p k) e = (p, k, refl, cc)
+
+module _ (t : Tables) where
+  -- The pairs of the tables have numbers below (S + 1)·W.
+  pub number-bound : (p : Pair) → InRange t p → pairNumber (t .worlds) p < (t .states + 1) * t .worlds
+  number-bound p range =
+      let h : p .state .0 < t .states + 1 = omega (arith, range .state-range) in
+      pair-number-bound (t .states + 1) (t .worlds) p h (range .world-range)
+
+  -- The fate of a pair by its number.
+  pub fate-of-pair :
+    (p : Pair) (c : ℕ) → InRange t p → fate t (pairNumber (t .worlds) p) c ≡ fateOf (t .worlds) (lampWalk t p c)
+  unfolding fate
+  fate-of-pair p c range =
+      ap (λ (q : Pair). fateOf (t .worlds) (lampWalk t q c)) (pair-of-number (t .worlds) p (range .world-range))
+
+  -- In the final state no walk arrives.
+  pub arrived-not-final : (n : ℕ) (p p′ : Pair) (c k : ℕ) → InRange t p → walk t n p c ≡ arrived p′ k → p .state .0 < t .states
+  arrived-not-final n p p′ c k range e = go (ℕ-discrete (p .state .0) (t .states))
+    where
+      stuck : (n : ℕ) → isFinal t (p .state) ≡ true → ¬ (walk t n p c ≡ arrived p′ k)
+      stuck zero f e = let g = walk-spent t p c true f in let z : _≡_ {A = ℕ} 0 1 = cc in omega arith
+      stuck (suc n) f e =
+          let g = walk-ends t n p c (judged t (p .world) c) (act-final t p c f) in
+          let z : _≡_ {A = ℕ} 0 1 = cc in
+          omega arith
+      go : Dec (p .state .0 ≡ t .states) → p .state .0 < t .states
+      go (yes f) = absurd (stuck n (eq-eqb (p .state .0) (t .states) f) e)
+      go (no f) = omega (arith, range .state-range)

@@ -1,0 +1,12 @@
+pub mod Counting
+pub mod Examples
+pub mod FailingLines
+pub mod FateLaws
+pub mod OneVerdict
+pub mod PassedLamps
+pub mod ReachedPairs
+pub mod RightAnswers
+pub mod RunLeads
+pub mod TableGraph
+pub mod TableTurns
+pub mod VerdictRight

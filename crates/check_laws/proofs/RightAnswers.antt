@@ -1,0 +1,115 @@
+-- What the search comes to is a right answer of the check: its least failing line is the counterexample, and where no line fails
+-- the plan is correct and the entries of the table are the pairs reached.
+use mathlib.Core.Path.{_≡_, refl, sym, ap, subst, _∙_}
+use mathlib.Core.List.{List, [], map}
+use Prim.Native.Nat.{ℕ, _+_, _*_, _≤_, _<_}
+use native.Mathlib.Omega.{arith}
+use lib.ListN.{length, length-map}
+use Rattle.plans.specs.Execution.{Label, T*, Correct}
+use Rattle.lamp_line.specs.declared.FailureKind.{FailureKind}
+use Rattle.lamp_line.specs.declared.Ending.the-variants.{Goal, Failure}
+use Rattle.lamp_line.specs.Lists.{_∈_}
+use Rattle.lamp_line.specs.Tables.{Tables, WellFormed, Situation, worldState, final, lampTheory, lampProblem, planOf}
+use Rattle.lamp_line.specs.Endings.{kindNumber, Ends, Leads}
+use Rattle.lamp_line.specs.Check.{rank, Counterexample, Reached, Accepts}
+use Rattle.lamp_line.specs.Run.{Pair, Run, ran, run}
+use Rattle.lamp_line.specs.Promises.{Run-of}
+use Rattle.run_laws.proofs.Pairs.{pairNumber}
+use Rattle.run_laws.proofs.Steps.{execution-in-range}
+use Rattle.run_laws.proofs.Actions.{lineOf}
+use Rattle.search_laws.proofs.Keys.{stem-is, key-stem-order}
+use Rattle.search_laws.proofs.Graph.{FailsFrom, Least}
+use Rattle.search_laws.proofs.Table.{Entry, entry, node}
+use Rattle.search_laws.proofs.Shortness.{least-short}
+use Rattle.search_laws.proofs.Turns.{At, accepted, reached-in-table}
+use Rattle.check_laws.specs.Fates.{pairOf}
+use Rattle.check_laws.proofs.FateLaws.{pair-of-number}
+use Rattle.check_laws.proofs.TableGraph.{graph, PairNumber, start-in-range, start-numbered, coded}
+use Rattle.check_laws.proofs.RunLeads.{run-leads}
+use Rattle.check_laws.proofs.FailingLines.{fails-in-graph, graph-fails}
+use Rattle.check_laws.proofs.ReachedPairs.{reached-in-graph, graph-reached}
+use Rattle.check_laws.proofs.Counting.{at-place-in, in-at-place, distinct-by-places}
+
+module _ (t : Tables) (wf : WellFormed t) where
+  -- The least failing line of the graph is the counterexample.
+  pub least-right :
+    (kind : FailureKind) (s e : ℕ) (l : List ℕ) → Least (graph t) l e s (kindNumber kind) →
+    Counterexample t kind (worldState s) (lineOf e l)
+  unfolding rank
+  least-right kind s e l least =
+      record {
+        fails = graph-fails t wf kind s e l (least .fails);
+        first = λ kind′ start′ line′ d.
+          rw (stem-is s l, stem-is (start′ .0) (line′ .lamps)) at
+          (key-stem-order l (line′ .lamps) e (line′ .end) s (start′ .0) (kindNumber kind) (kindNumber kind′)
+          (least .least (start′ .0) (line′ .lamps) (line′ .end) (kindNumber kind′) (fails-in-graph t wf kind′ start′ line′ d)));
+        short =
+          least-short (graph t) (PairNumber t) (λ x. x) (t .states * t .worlds) (coded t wf) (start-numbered t wf)
+          s l e (kindNumber kind) least
+      }
+
+  -- Where no line fails in the graph, the plan is correct.
+  none-fails-correct :
+    ((s : ℕ) (l : List ℕ) (e f : ℕ) → ¬ (FailsFrom (graph t) s l e f)) → Correct (lampProblem t) (planOf t)
+  unfolding Correct Leads Ends
+  none-fails-correct none s (marked, fits) = go (run t (s .world) (s .rest)) refl
+    where
+      of : Run-of t (s .world) (s .rest)
+      of = record { marked = marked; fits = fits }
+      go :
+        (r : Run) → run t (s .world) (s .rest) ≡ r →
+        (ls : List Label) × (s′ : Situation) × T* (lampTheory t) (planOf t) ls (t .first) s (final t) s′ × lampProblem t .Goal s′
+      go (ran Goal k) e =
+          let (ls, q, s′, execution, (is-final, goal)) = run-leads t wf (s .world) (s .rest) of Goal (k, e) in
+          (ls, s′, subst (λ q. T* (lampTheory t) (planOf t) ls (t .first) s q s′) is-final execution, goal)
+      go (ran (Failure kind) k) e =
+          let leads = run-leads t wf (s .world) (s .rest) of (Failure kind) (k, e) in
+          absurd (none (s .world .0) (s .rest .lamps) (s .rest .end) (kindNumber kind)
+          (fails-in-graph t wf kind (s .world) (s .rest) (record { marked = marked; fits = fits; leads = leads })))
+
+  -- ---- the table of a search that is through
+
+  module _ (E : List Entry) (h : ℕ) (at : At (graph t) E h (t .kinds + 1)) (end : length E ≤ h + 1) where
+    pairAt : Entry → Pair
+    pairAt v = pairOf (t .worlds) (v .node)
+
+    -- The number of the pair at a place is the node there, and the pair is reached.
+    entry-reached :
+      (i : ℕ) → i < length E →
+      (pairNumber (t .worlds) (pairOf (t .worlds) (node E i)) ≡ node E i) × Reached t (pairOf (t .worlds) (node E i))
+    entry-reached i l =
+        let (p, is, range, reached) = graph-reached t wf (at .inv .real i l) in
+        let same : pairOf (t .worlds) (node E i) ≡ p =
+              ap (pairOf (t .worlds)) is ∙ pair-of-number (t .worlds) p (range .world-range) in
+        (ap (pairNumber (t .worlds)) same ∙ sym is, subst (Reached t) (sym same) reached)
+
+    reached-listed : (p : Pair) → Reached t p → p ∈ map pairAt E
+    unfolding pairAt
+    reached-listed p r =
+        let (s, pre, reach) = reached-in-graph t wf p r in
+        let (j, l, is) = reached-in-table (graph t) E h at end reach in
+        let range = execution-in-range t wf (r .execution) (start-in-range t wf (r .start) (r .marked)) in
+        let same = ap (pairOf (t .worlds)) is ∙ pair-of-number (t .worlds) p (range .world-range) in
+        subst (λ (q : Pair). q ∈ map pairAt E) same (at-place-in pairAt (entry 0 0 []) E j l)
+
+    listed-reached : (p : Pair) → p ∈ map pairAt E → Reached t p
+    unfolding pairAt
+    listed-reached p m =
+        let (i, l, e) = in-at-place pairAt (entry 0 0 []) E p m in
+        subst (Reached t) (sym e) (entry-reached i l .1)
+
+    -- The plan is accepted with the number of entries.
+    pub table-right : Accepts t (length E)
+    unfolding pairAt
+    table-right =
+        record {
+          correct = none-fails-correct (accepted (graph t) E h at end);
+          counted = record {
+            listed = map pairAt E;
+            exactly = λ p. (reached-listed p, listed-reached p);
+            once = distinct-by-places pairAt (entry 0 0 []) E (λ i j k l e.
+              at .inv .distinct i j k l
+              (sym (entry-reached i (omega arith) .0) ∙ ap (pairNumber (t .worlds)) e ∙ entry-reached j l .0));
+            number = length-map E pairAt
+          }
+        }

@@ -1,0 +1,35 @@
+-- What the reader's answer says of any operation on the file: a refused file is refused by it with the same number, and with a file
+-- that is not refused its own rules decide.
+use mathlib.Core.Path.{_≡_, refl, sym, ap, _∙_}
+use mathlib.Core.Option.{Option, none, some}
+use mathlib.Core.List.{List, _++_}
+use Prim.Native.Nat.{ℕ}
+use native.Mathlib.Omega.{arith}
+use Rattle.lamp_line.specs.Refusals.{Rule, refusal, orRefused, answerBy}
+use Rattle.lamp_line.proofs.Answering.{by-rules-before}
+use Rattle.job_layout.specs.declared.Job.{Job}
+use Rattle.job_layout.specs.Layout.{head}
+use Rattle.job_file.specs.declared.Reading.the-variants as reading
+use Rattle.job_file.specs.Reading.{fileRules, readingOf, Opened}
+
+module _ {A : Type 0} (refused : ℕ → A) (s : List ℕ) (more : List Rule) (answer : A) where
+  -- A refused file.
+  pub file-refused : (number : ℕ) → readingOf s ≡ reading.Refused number → refused number ≡ answerBy refused (fileRules s ++ more) answer
+  unfolding readingOf answerBy
+  file-refused number e =
+      by (refusal (fileRules s)) e ∙ sym (by-rules-before refused (fileRules s) more answer)
+    where
+      by : (o : Option ℕ) → orRefused reading.Refused o (reading.Job (head s)) ≡ reading.Refused number →
+        refused number ≡ orRefused refused o (answerBy refused more answer)
+      by none e = absurd (let z : _≡_ {A = ℕ} 0 1 = cc in omega arith)
+      by (some n) e = let same : n ≡ number = cc in ap refused (sym same)
+
+  -- A file that is not refused.
+  pub file-opened : (j : Job) → Opened s j → answerBy refused (fileRules s ++ more) answer ≡ answerBy refused more answer
+  unfolding readingOf answerBy
+  file-opened j e = by-rules-before refused (fileRules s) more answer ∙ by (refusal (fileRules s)) e
+    where
+      by : (o : Option ℕ) → orRefused reading.Refused o (reading.Job (head s)) ≡ reading.Job j →
+        orRefused refused o (answerBy refused more answer) ≡ answerBy refused more answer
+      by none e = refl
+      by (some n) e = absurd (let z : _≡_ {A = ℕ} 0 1 = cc in omega arith)

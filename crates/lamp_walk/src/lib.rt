@@ -1,0 +1,119 @@
+// The one-lamp walk (document 01, "One run"): from a program state and a world state at a column, to the pair on arriving at the next
+// lamp or to the ending there, with the steps counted. `walk_lamp` is the operation; it asks nothing of its caller.
+ghost use mathlib.Core.Path.{_≡_};
+ghost use Prim.Native.Nat.{_≤_, _<_};
+ghost use Rattle.lamp_line.specs.Tables.{columns};
+ghost use Rattle.lamp_line.specs.Run.{judged, pair, act, lampWalk};
+ghost use Rattle.job_layout.specs.JobTables.{tablesOf};
+ghost use Rattle.job_file.specs.Reading.{Opened};
+ghost use Rattle.lamp_walk.specs.WalkAnswers.{moveOf, spentEnding, walkOf};
+use job_layout::Job;
+use job_tables::is_goal;
+use job_tables::moves_on;
+use job_tables::plan_action;
+use job_tables::plan_target;
+use job_tables::read_cell;
+use job_tables::Cell;
+use job_tables::Target;
+use lamp_line::Ending;
+use lamp_line::FailureKind;
+use lamp_line::ProgramState;
+use lamp_line::WorldState;
+
+// What comes of one action: the run ends, or goes on at the same lamp, or at the next.
+pub enum Move {
+    Ends(Ending),
+    Stays(ProgramState, WorldState),
+    Passes(ProgramState, WorldState),
+}
+
+// What comes of one lamp, with the steps counted there.
+pub enum Walked {
+    Ended(Ending, u32),
+    Arrived(ProgramState, WorldState, u32),
+}
+
+// What the one-lamp walk answers.
+pub enum WalkAnswer {
+    Ended(Ending, u32),
+    Arrived(ProgramState, WorldState, u32),
+    Refused(u8),
+}
+
+// The ending in state S.
+fn judge(file: &[u8], job: Job, world: WorldState, column: u8) -> Ending
+    requires { ⌜ Opened (now file) job × (world .0 < job .worlds) × (column < columns (job .kinds)) ⌝ }
+    ensures { λ r. ⌜ r ≡ judged (tablesOf (now (file .entry))) world column ⌝ }
+{
+    if is_goal(file, job, world, column) {
+        return Ending::Goal;
+    }
+    Ending::Failure(FailureKind::GoalFalse)
+}
+
+// The action of a state that is not final.
+fn try_action(file: &[u8], job: Job, state: ProgramState, world: WorldState, column: u8) -> Move
+    requires { ⌜ Opened (now file) job × (state .0 < job .states) × (world .0 < job .worlds) × (column < columns (job .kinds)) ⌝ }
+    ensures { λ r. ⌜ moveOf r ≡ act (tablesOf (now (file .entry))) (pair state world) column ⌝ }
+{
+    let action = plan_action(file, job, state);
+    let cell = read_cell(file, job, action, world, column);
+    let Cell::Legal(next, result) = cell else {
+        return Move::Ends(Ending::Failure(FailureKind::NotLegal));
+    };
+    let target = plan_target(file, job, state, result);
+    let Target::To(to) = target else {
+        return Move::Ends(Ending::Failure(FailureKind::NoBranch));
+    };
+    if moves_on(file, job, action) {
+        return Move::Passes(to, next);
+    }
+    Move::Stays(to, next)
+}
+
+pub fn one_action(file: &[u8], job: Job, state: ProgramState, world: WorldState, column: u8) -> Move
+    requires { ⌜ Opened (now file) job × (state .0 ≤ job .states) × (world .0 < job .worlds) × (column < columns (job .kinds)) ⌝ }
+    ensures { λ r. ⌜ moveOf r ≡ act (tablesOf (now (file .entry))) (pair state world) column ⌝ }
+{
+    if state.0 == job.states {
+        return Move::Ends(judge(file, job, world, column));
+    }
+    try_action(file, job, state, world, column)
+}
+
+// The walk where no step is left of the S·W that may be counted at a lamp.
+fn spent(file: &[u8], job: Job, state: ProgramState, world: WorldState, column: u8) -> Ending
+    requires { ⌜ Opened (now file) job × (world .0 < job .worlds) × (column < columns (job .kinds)) ⌝ }
+    ensures { λ r. ⌜ r ≡ spentEnding (tablesOf (now (file .entry))) state world column ⌝ }
+{
+    if state.0 == job.states {
+        return judge(file, job, world, column);
+    }
+    Ending::Failure(FailureKind::Circles)
+}
+
+// The walk in a file that is not refused. It is for the crates above and not for users: it asks for the job that the reader
+// answered for this file, and for numbers within the tables.
+pub fn walk_open(file: &[u8], job: Job, state: ProgramState, world: WorldState, column: u8) -> Walked
+    requires { ⌜ Opened (now file) job × (state .0 ≤ job .states) × (world .0 < job .worlds) × (column < columns (job .kinds)) ⌝ }
+    ensures { λ r. ⌜ walkOf r ≡ lampWalk (tablesOf (now (file .entry))) (pair state world) column ⌝ }
+{
+    let most = job.states as u32 * job.worlds as u32;
+    let mut q = state;
+    let mut w = world;
+    let mut k: u32 = 0;
+    while k < most {
+        let step = one_action(file, job, q, w, column);
+        match step {
+            Move::Ends(ending) => return Walked::Ended(ending, k),
+            Move::Passes(to, next) => return Walked::Arrived(to, next, k + 1),
+            Move::Stays(to, next) => {
+                q = to;
+                w = next;
+            }
+        }
+        k += 1;
+    }
+    let ending = spent(file, job, q, w, column);
+    Walked::Ended(ending, k)
+}

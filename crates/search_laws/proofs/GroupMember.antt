@@ -1,0 +1,150 @@
+-- One entry of a group, tried with one kind of lamp: the nodes it leads to are in the table already, or are added.
+use mathlib.Core.Path.{_≡_, sym, subst}
+use mathlib.Core.Logic.{_≢_, _⊎_, inl, inr, ⊎-elim}
+use mathlib.Core.List.{List, [], _∷_}
+use Prim.Native.Nat.{ℕ, _+_, _≤_, _<_}
+use native.Mathlib.Omega.{arith}
+use lib.ListN.{length, length-append}
+use Rattle.lamp_line.specs.Lists.{_≼_}
+use Rattle.search_laws.proofs.Lex.{_▸_, _≺_, ≼-refl}
+use Rattle.search_laws.proofs.Keys.{stem, lineKey, stem-longer, stem-more, key-by-stem, key-more}
+use Rattle.search_laws.proofs.Graph.{Graph, Kind, Reach, past-lamp}
+use Rattle.search_laws.proofs.Table.{Entry, entryKey, entryStem, entryAt, node, start, path, keyOf, stemOf, keyOn, stemOn}
+use Rattle.search_laws.proofs.Table.{Known}
+use Rattle.search_laws.proofs.Grown.{below-or-not, below-or-last, grown, onward, grown-length, still-at, was-at}
+use Rattle.search_laws.proofs.Grown.{grown-all, grown-pairs, known-grown}
+use Rattle.search_laws.proofs.Invariant.{Tried, GroupTried, Invariant, group-in-table}
+
+tried-more : (a b k m i c : ℕ) → Tried a b k (m + 1) i c → Tried a b k m i c ⊎ ((i ≡ m) × (c ≡ k))
+tried-more a b k m i c (inl x) = inl (inl x)
+tried-more a b k m i c (inr (x, inl y)) = inl (inr (x, inl y))
+tried-more a b k m i c (inr (x, inr (y, z))) = ⊎-elim (λ w. inl (inr (x, inr (y, w)))) (λ w. inr (w, y)) (below-or-last i m z)
+
+module _ {g : Graph} {E : List Entry} {a b k m n : ℕ} (inv : Invariant g E a b k m n) (here : m < b) where
+  stem-tried : stemOn E m k ≡ stemOn E a k
+  stem-tried = stem-more (start E m) (start E a) (path E m) (path E a) k (inv .one-stem m (inv .a≤m) here)
+
+  -- Every entry comes no later than the line that is tried.
+  all-early : (j : ℕ) → j < length E → keyOf E j ≼ keyOn E m k
+  all-early j l = go (below-or-not j n)
+    where
+      go : (j < n) ⊎ (n ≤ j) → keyOf E j ≼ keyOn E m k
+      go (inl h) =
+          key-by-stem (path E j) (path E m ▸ k) 0 0 (start E j) (start E m) 0 0
+          (subst (λ (z : List ℕ). stemOf E j ≺ z) (sym stem-tried) (inv .old-stems j h))
+      go (inr h) = inv .new-early j m h l (omega arith) here
+
+  -- A node of the table is known early enough.
+  pub seen : (j y : ℕ) → j < length E → node E j ≡ y → Known E y (start E m) (path E m ▸ k)
+  seen j y l e = record { place = j; there = l; same = e; early = all-early j l }
+
+  -- The next entry of the group, when all nodes to which this one leads are known.
+  pub member-done :
+    ((y : ℕ) → g .To (node E m) k y → Known E y (start E m) (path E m ▸ k)) → Invariant g E a b k (m + 1) n
+  member-done to =
+      record {
+        covers = record { roots = inv .covers .roots; on = on };
+        lamps-good = inv .lamps-good;
+        ends-good = inv .ends-good;
+        real = inv .real;
+        sorted = inv .sorted;
+        one-stem = inv .one-stem;
+        later-stems = inv .later-stems;
+        old-stems = inv .old-stems;
+        new-stems = inv .new-stems;
+        new-early = λ i j x l y. inv .new-early i j x l (omega arith);
+        distinct = inv .distinct;
+        a<b = inv .a<b;
+        a≤m = omega (arith, inv .a≤m);
+        m≤b = omega arith;
+        b≤n = inv .b≤n;
+        n≤length = inv .n≤length
+      }
+    where
+      on :
+        (i c y : ℕ) → i < length E → Kind (g .kinds) c → Tried a b k (m + 1) i c → g .To (node E i) c y →
+        Known E y (start E i) (path E i ▸ c)
+      on i c y l kind d t = go (tried-more a b k m i c d)
+        where
+          go : Tried a b k m i c ⊎ ((i ≡ m) × (c ≡ k)) → Known E y (start E i) (path E i ▸ c)
+          go (inl u) = inv .covers .on i c y l kind u t
+          go (inr (u, v)) = rw (u, v) (to y (rw (u, v) at t))
+
+  -- ---- a new node
+
+  module _ (kind : Kind (g .kinds) k) (y : ℕ) (new : (i : ℕ) → i < length E → node E i ≢ y) (to : g .To (node E m) k y) where
+    z : Entry
+    z = onward E m k y
+
+    still : (i : ℕ) → i < length E → (P : Entry → Type 0) → P (entryAt E i) → P (entryAt (grown E z) i)
+    still = still-at E z
+
+    was : (i : ℕ) → i < length E → (P : Entry → Type 0) → P (entryAt (grown E z) i) → P (entryAt E i)
+    was = was-at E z
+
+    tried-old : (i c : ℕ) → Tried a b k m i c → i < length E
+    tried-old i c (inl x) = group-in-table inv i (omega (arith, inv .a<b))
+    tried-old i c (inr (x, y)) = group-in-table inv i x
+
+    group-old : (i c : ℕ) → GroupTried a b k i c → i < length E
+    group-old i c (inl x) = group-in-table inv i (omega (arith, inv .a<b))
+    group-old i c (inr (x, y)) = group-in-table inv i x
+
+    first-old : a < length E
+    first-old = group-in-table inv a (inv .a<b)
+
+    -- The node is added.
+    pub add : Invariant g (grown E (onward E m k y)) a b k m n
+    unfolding z
+    add =
+        record {
+          covers = record {
+            roots = λ s x st. known-grown E z (inv .covers .roots s x st);
+            on = λ i c y′ l kc d t′.
+              still i (tried-old i c d) (λ v. Known (grown E z) y′ (v .start) (v .path ▸ c))
+              (known-grown E z
+              (inv .covers .on i c y′ (tried-old i c d) kc d (was i (tried-old i c d) (λ v. g .To (v .node) c y′) t′)))
+          };
+          lamps-good = λ i c f l kc d x.
+            inv .lamps-good i c f (group-old i c d) kc d (was i (group-old i c d) (λ v. g .Bad (v .node) c f) x);
+          ends-good = λ i e f l le x.
+            inv .ends-good i e f l le (was i (omega (arith, inv .n≤length)) (λ v. g .BadEnd (v .node) e f) x);
+          real =
+            grown-all E z (λ j v. Reach g (v .start) (v .path) (v .node)) (inv .real)
+            (past-lamp (inv .real m (group-in-table inv m here)) kind to);
+          sorted = grown-pairs E z (λ u v. entryKey u ≼ entryKey v) (inv .sorted) all-early;
+          one-stem = λ i x l.
+            still i (group-in-table inv i l) (λ v. entryStem v ≡ stemOf (grown E z) a)
+            (still a first-old (λ v. stemOf E i ≡ entryStem v) (inv .one-stem i x l));
+          later-stems = λ i x l.
+            still a first-old (λ v. entryStem v ≺ stemOf (grown E z) i)
+            (grown-all E z (λ i v. b ≤ i → stemOf E a ≺ entryStem v) (λ i l x. inv .later-stems i x l) (λ x. longer) i l x);
+          old-stems = λ i l.
+            still a first-old (λ v. stemOf (grown E z) i ≺ stem (v .start) (v .path ▸ k))
+            (still i (omega (arith, inv .n≤length)) (λ v. entryStem v ≺ stemOn E a k) (inv .old-stems i l));
+          new-stems = λ i x l.
+            still a first-old (λ v. stemOf (grown E z) i ≡ stem (v .start) (v .path ▸ k))
+            (grown-all E z (λ i v. n ≤ i → entryStem v ≡ stemOn E a k) (λ i l x. inv .new-stems i x l) (λ x. stem-tried) i l x);
+          new-early = λ i j x l x′ l′.
+            still j (group-in-table inv j l′) (λ v. keyOf (grown E z) i ≼ lineKey (v .path ▸ k) (v .start))
+            (grown-all E z (λ i v. n ≤ i → entryKey v ≼ keyOn E j k)
+            (λ i l x. inv .new-early i j x l x′ l′) (λ x. no-later j x′ l′) i l x);
+          distinct = grown-pairs E z (λ u v. u .node ≢ v .node) (inv .distinct) new;
+          a<b = inv .a<b;
+          a≤m = inv .a≤m;
+          m≤b = inv .m≤b;
+          b≤n = inv .b≤n;
+          n≤length = omega (arith, inv .n≤length, grown-length E z)
+        }
+      where
+        longer : stemOf E a ≺ stemOn E m k
+        longer =
+            subst (λ (v : List ℕ). v ≺ stemOn E m k) (inv .one-stem m (inv .a≤m) here)
+            (stem-longer (start E m) (start E m) (path E m) (path E m ▸ k) (omega (arith, length-append (path E m) (k ∷ []))))
+        at-or-behind : (j : ℕ) → (m < j) ⊎ (m ≡ j) → j < length E → keyOf E m ≼ keyOf E j
+        at-or-behind j (inl u) l = inv .sorted m j u l
+        at-or-behind j (inr u) l = subst (λ (i : ℕ). keyOf E m ≼ keyOf E i) u (≼-refl (keyOf E m))
+        no-later : (j : ℕ) → m ≤ j → j < b → keyOn E m k ≼ keyOn E j k
+        no-later j x l =
+            key-more (start E m) (start E j) (path E m) (path E j) k
+            (at-or-behind j (below-or-last m j (omega arith)) (group-in-table inv j l))

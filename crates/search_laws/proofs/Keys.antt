@@ -1,0 +1,183 @@
+-- The order of failures. A failure has a key, a list of numbers: first its stem, which is the line's length, the start and the
+-- kinds of the lamps, then its tail, which is the kind of the line's end and the kind of failure.
+use mathlib.Core.Path.{_≡_, refl, sym, ap, ap₂, subst, _∙_}
+use mathlib.Core.Logic.{_⊎_, inl, inr, ⊎-elim}
+use mathlib.Core.List.{List, [], _∷_, _++_, append-nil, append-assoc}
+use Prim.Native.Nat.{ℕ, zero, suc, _≤_, _<_}
+use native.Mathlib.Omega.{arith}
+use lib.ListN.{length, length-append}
+use Rattle.lamp_line.specs.Lists.{_≼_}
+use Rattle.search_laws.proofs.Lex.{_▸_, _≺_, ≼-refl, ≼-behind, ≼-single, ≼-split, ≺→≼, ≺-append, ≺-last}
+
+-- ---- where the start is compared
+
+-- What the start adds to the stem, before the kinds of the lamps, and to the tail, before the kind of failure. Of these two the
+-- laws below use the next three facts alone.
+lead : ℕ → List ℕ
+lead s = s ∷ []
+
+trail : ℕ → List ℕ
+trail s = []
+
+lead-length : (s s′ : ℕ) → length (lead s) ≡ length (lead s′)
+unfolding lead
+lead-length s s′ = refl
+
+trail-length : (s s′ : ℕ) → length (trail s) ≡ length (trail s′)
+unfolding trail
+trail-length s s′ = refl
+
+start-less : (s s′ : ℕ) → s < s′ → (lead s ≺ lead s′) ⊎ ((lead s ≡ lead s′) × (trail s ≺ trail s′))
+unfolding lead trail _≺_
+start-less s s′ h = inl (inl h)
+
+-- ---- stems
+
+-- The stem of a line from a start.
+pub stem : ℕ → List ℕ → List ℕ
+stem s p = length p ∷ (lead s ++ p)
+
+-- The stem in full.
+pub stem-is : (s : ℕ) (p : List ℕ) → stem s p ≡ length p ∷ s ∷ p
+unfolding stem lead
+stem-is s p = refl
+
+-- The shorter line has the earlier stem.
+pub stem-longer : (s s′ : ℕ) (p p′ : List ℕ) → length p < length p′ → stem s p ≺ stem s′ p′
+unfolding stem _≺_
+stem-longer s s′ p p′ h = inl h
+
+-- Of empty lines the lower start has the earlier stem.
+pub stem-start : (s s′ : ℕ) → s < s′ → stem s [] ≺ stem s′ []
+unfolding stem lead _≺_
+stem-start s s′ h = inr (refl, inl h)
+
+stem-snoc : (s : ℕ) (p : List ℕ) (c : ℕ) → stem s (p ▸ c) ≡ suc (length p) ∷ ((lead s ++ p) ▸ c)
+unfolding stem
+stem-snoc s p c =
+    ap₂ (λ (n : ℕ) (l : List ℕ). n ∷ l) (omega (arith, length-append p (c ∷ []))) (sym (append-assoc (lead s) p (c ∷ [])))
+
+-- One stem stays one with the same kind behind both lines.
+pub stem-more : (s s′ : ℕ) (p p′ : List ℕ) (c : ℕ) → stem s p ≡ stem s′ p′ → stem s (p ▸ c) ≡ stem s′ (p′ ▸ c)
+stem-more s s′ p p′ c h = stem-snoc s p c ∙ same ∙ sym (stem-snoc s′ p′ c)
+  where
+    same : suc (length p) ∷ ((lead s ++ p) ▸ c) ≡ suc (length p′) ∷ ((lead s′ ++ p′) ▸ c)
+    same = unfold stem in
+        let a : length p ≡ length p′ = cc in
+        let b : lead s ++ p ≡ lead s′ ++ p′ = cc in
+        ap₂ (λ (n : ℕ) (l : List ℕ). suc n ∷ (l ▸ c)) a b
+
+-- The earlier stem stays earlier with any kinds behind the lines.
+pub stem-more-less :
+  (s s′ : ℕ) (p p′ : List ℕ) (c c′ : ℕ) → stem s p ≺ stem s′ p′ → stem s (p ▸ c) ≺ stem s′ (p′ ▸ c′)
+stem-more-less s s′ p p′ c c′ h = rw (stem-snoc s p c, stem-snoc s′ p′ c′) (go (unfold stem in h))
+  where
+    go :
+      (length p ∷ (lead s ++ p)) ≺ (length p′ ∷ (lead s′ ++ p′)) →
+      (suc (length p) ∷ ((lead s ++ p) ▸ c)) ≺ (suc (length p′) ∷ ((lead s′ ++ p′) ▸ c′))
+    go h = unfold _≺_ in
+        ⊎-elim (λ x. inl (omega arith))
+        (λ x. inr (omega (arith, x .0), ≺-append (lead s ++ p) (lead s′ ++ p′) (c ∷ []) (c′ ∷ []) (x .1))) h
+
+-- Behind one stem the lower kind has the earlier stem.
+pub stem-kind-less :
+  (s s′ : ℕ) (p p′ : List ℕ) (c c′ : ℕ) → stem s p ≡ stem s′ p′ → c < c′ → stem s (p ▸ c) ≺ stem s′ (p′ ▸ c′)
+stem-kind-less s s′ p p′ c c′ e h =
+    subst (λ (z : List ℕ). stem s (p ▸ c) ≺ z) (stem-more s s′ p p′ c′ e)
+    (rw (stem-snoc s p c, stem-snoc s p c′) (unfold _≺_ in inr (refl, ≺-last (lead s ++ p) c c′ h)))
+
+-- ---- keys
+
+tail : ℕ → ℕ → ℕ → List ℕ
+tail e s f = e ∷ (trail s ▸ f)
+
+-- The key of the failure f from the start s on the line with the lamps p and the end e.
+pub key : List ℕ → ℕ → ℕ → ℕ → List ℕ
+key p e s f = stem s p ++ tail e s f
+
+-- The key of a line and a start alone, with the lowest end and no failure.
+abbrev pub lineKey : List ℕ → ℕ → List ℕ
+lineKey p s = key p 0 s 0
+
+module _ (p p′ : List ℕ) (e e′ s s′ f f′ : ℕ) where
+  -- The earlier stem has the earlier key.
+  pub key-by-stem : stem s p ≺ stem s′ p′ → key p e s f ≼ key p′ e′ s′ f′
+  unfolding key
+  key-by-stem h = ≺→≼ _ _ (≺-append (stem s p) (stem s′ p′) (tail e s f) (tail e′ s′ f′) h)
+
+  key-by-tail : stem s p ≡ stem s′ p′ → tail e s f ≼ tail e′ s′ f′ → key p e s f ≼ key p′ e′ s′ f′
+  unfolding key
+  key-by-tail h r =
+      subst (λ (z : List ℕ). (stem s p ++ tail e s f) ≼ (z ++ tail e′ s′ f′)) h
+      (≼-behind (stem s p) (tail e s f) (tail e′ s′ f′) r)
+
+  key-cases :
+    key p e s f ≼ key p′ e′ s′ f′ → (stem s p ≺ stem s′ p′) ⊎ ((stem s p ≡ stem s′ p′) × (tail e s f ≼ tail e′ s′ f′))
+  unfolding key stem _≼_ _≺_
+  key-cases (inl x) = inl (inl x)
+  key-cases (inr (x, r)) =
+      ⊎-elim (λ u. inl (inr (x, u))) (λ (u, v). inr (cc, v))
+      (≼-split (lead s ++ p) (lead s′ ++ p′) (tail e s f) (tail e′ s′ f′)
+      (omega (arith, length-append (lead s) p, length-append (lead s′) p′, lead-length s s′)) r)
+
+  -- Of keys in order the earlier has the earlier stem, or both have one.
+  pub key-stems : key p e s f ≼ key p′ e′ s′ f′ → (stem s p ≺ stem s′ p′) ⊎ (stem s p ≡ stem s′ p′)
+  key-stems h = ⊎-elim (λ u. inl u) (λ (u, v). inr u) (key-cases h)
+
+  -- So their stems are in order.
+  pub key-stem-order : key p e s f ≼ key p′ e′ s′ f′ → stem s p ≼ stem s′ p′
+  key-stem-order h =
+      ⊎-elim (λ u. ≺→≼ _ _ u) (λ u. subst (λ (z : List ℕ). stem s p ≼ z) u (≼-refl (stem s p))) (key-stems h)
+
+  -- The earlier key is that of no longer line.
+  pub key-length : key p e s f ≼ key p′ e′ s′ f′ → length p ≤ length p′
+  unfolding key stem _≼_
+  key-length (inl x) = omega arith
+  key-length (inr (x, y)) = omega arith
+
+-- Of empty lines the lower start comes first.
+pub key-start : (s s′ : ℕ) → s < s′ → lineKey [] s ≼ lineKey [] s′
+key-start s s′ h = go (start-less s s′ h)
+  where
+    go : (lead s ≺ lead s′) ⊎ ((lead s ≡ lead s′) × (trail s ≺ trail s′)) → lineKey [] s ≼ lineKey [] s′
+    go (inl u) = key-by-stem [] [] 0 0 s s′ 0 0 (unfold stem _≺_ in inr (refl, ≺-append (lead s) (lead s′) [] [] u))
+    go (inr (u, v)) =
+        key-by-tail [] [] 0 0 s s′ 0 0 (unfold stem in ap (λ (z : List ℕ). 0 ∷ (z ++ [])) u)
+        (unfold tail _≼_ in inr (refl, ≺→≼ _ _ (≺-append (trail s) (trail s′) (0 ∷ []) (0 ∷ []) v)))
+
+-- Lines in order stay so with the same kind behind both.
+pub key-more : (s s′ : ℕ) (p p′ : List ℕ) (c : ℕ) → lineKey p s ≼ lineKey p′ s′ → lineKey (p ▸ c) s ≼ lineKey (p′ ▸ c) s′
+key-more s s′ p p′ c h =
+    ⊎-elim (λ u. key-by-stem (p ▸ c) (p′ ▸ c) 0 0 s s′ 0 0 (stem-more-less s s′ p p′ c c u))
+    (λ (u, v). key-by-tail (p ▸ c) (p′ ▸ c) 0 0 s s′ 0 0 (stem-more s s′ p p′ c u) v) (key-cases p p′ 0 0 s s′ 0 0 h)
+
+-- Lines in order stay so with the same end and the same failure.
+pub key-end : (s s′ e f : ℕ) (p p′ : List ℕ) → lineKey p s ≼ lineKey p′ s′ → key p e s f ≼ key p′ e s′ f
+key-end s s′ e f p p′ h =
+    ⊎-elim (λ u. key-by-stem p p′ e e s s′ f f u) (λ (u, v). key-by-tail p p′ e e s s′ f f u (again v))
+    (key-cases p p′ 0 0 s s′ 0 0 h)
+  where
+    trails : tail 0 s 0 ≼ tail 0 s′ 0 → (trail s ≺ trail s′) ⊎ ((trail s ≡ trail s′) × ((0 ∷ []) ≼ (0 ∷ [])))
+    trails r = unfold tail _≼_ in
+        ⊎-elim (λ x. absurd (omega arith))
+        (λ (x, y). ≼-split (trail s) (trail s′) (0 ∷ []) (0 ∷ []) (trail-length s s′) y) r
+    again : tail 0 s 0 ≼ tail 0 s′ 0 → tail e s f ≼ tail e s′ f
+    again r = unfold tail _≼_ in
+        inr (refl, ⊎-elim (λ u. ≺→≼ _ _ (≺-append (trail s) (trail s′) (f ∷ []) (f ∷ []) u))
+        (λ (u, v). subst (λ (z : List ℕ). (trail s ▸ f) ≼ (z ▸ f)) u (≼-refl (trail s ▸ f))) (trails r))
+
+-- A line comes no later than what begins with it, whatever its end.
+pub key-prefix : (s e f f′ : ℕ) (p r : List ℕ) → f ≤ f′ → key p 0 s f ≼ key (p ++ r) e s f′
+key-prefix s e f f′ p [] h =
+    subst (λ (z : List ℕ). key p 0 s f ≼ key z e s f′) (sym (append-nil p)) (key-by-tail p p 0 e s s f f′ refl (at e))
+  where
+    at : (e : ℕ) → tail 0 s f ≼ tail e s f′
+    at zero = unfold tail _≼_ in inr (refl, ≼-behind (trail s) (f ∷ []) (f′ ∷ []) (≼-single f f′ h))
+    at (suc e) = unfold tail _≼_ in inl (omega arith)
+key-prefix s e f f′ p (a ∷ r) h =
+    key-by-stem p (p ++ (a ∷ r)) 0 e s s f f′
+    (stem-longer s s p (p ++ (a ∷ r)) (omega (arith, length-append p (a ∷ r))))
+
+-- Of one line and start the lower end comes first.
+pub key-lower-end : (p : List ℕ) (s e e′ f f′ : ℕ) → e < e′ → key p e s f ≼ key p e′ s f′
+key-lower-end p s e e′ f f′ h = key-by-tail p p e e′ s s f f′ refl (unfold tail _≼_ in inl h)

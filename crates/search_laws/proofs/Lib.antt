@@ -1,0 +1,14 @@
+pub mod Begin
+pub mod Graph
+pub mod GroupKind
+pub mod GroupMember
+pub mod Grown
+pub mod Invariant
+pub mod Keys
+pub mod Lex
+pub mod NextGroup
+pub mod Room
+pub mod Shortness
+pub mod Starts
+pub mod Table
+pub mod Turns
