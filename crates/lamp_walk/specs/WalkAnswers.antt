@@ -1,11 +1,10 @@
 -- What the functions of this crate answer, in the terms of the definition of a run (document 01, "One run").
 use mathlib.Core.Bool.{cond}
-use mathlib.Core.Option.{Option, none, some}
 use mathlib.Core.List.{List}
 use Prim.Native.Nat.{ℕ}
 use Rattle.lamp_line.specs.declared.ProgramState.{ProgramState}
 use Rattle.lamp_line.specs.declared.WorldState.{WorldState}
-use Rattle.lamp_line.specs.Refusals.{refusal}
+use Rattle.lamp_line.specs.Refusals.{answerBy}
 use Rattle.lamp_line.specs.declared.FailureKind.the-variants.{Circles}
 use Rattle.lamp_line.specs.declared.Ending.{Ending}
 use Rattle.lamp_line.specs.declared.Ending.the-variants.{Failure}
@@ -36,14 +35,12 @@ walkOf (walked.Arrived q w k) = arrived (pair q w) k
 abbrev pub spentEnding : Tables → ProgramState → WorldState → ℕ → Ending
 spentEnding t q w column = cond (isFinal t q) (judged t w column) (Failure Circles)
 
-abbrev answerOf : Walk → WalkAnswer
+-- What the operation answers of a walk.
+abbrev pub answerOf : Walk → WalkAnswer
 answerOf (ended x k) = answer.Ended x k
 answerOf (arrived p k) = answer.Arrived (p .state) (p .world) k
 
-abbrev answerUnless : Option ℕ → Walk → WalkAnswer
-answerUnless none walk = answerOf walk
-answerUnless (some number) walk = answer.Refused number
-
 -- The one-lamp walk: the first refusal that applies, or what comes of the lamp.
 unfoldable pub walkAnswer : List ℕ → ProgramState → WorldState → ℕ → WalkAnswer
-walkAnswer s q w column = answerUnless (refusal (walkRules s q w column)) (lampWalk (tablesOf s) (pair q w) column)
+walkAnswer s q w column =
+    answerBy answer.Refused (walkRules s q w column) (answerOf (lampWalk (tablesOf s) (pair q w) column))

@@ -6,7 +6,11 @@ ghost use Rattle.lamp_line.specs.Tables.{columns};
 ghost use Rattle.lamp_line.specs.Run.{judged, pair, act, lampWalk};
 ghost use Rattle.job_layout.specs.JobTables.{tablesOf};
 ghost use Rattle.job_file.specs.Reading.{Opened};
-ghost use Rattle.lamp_walk.specs.WalkAnswers.{moveOf, spentEnding, walkOf};
+ghost use Rattle.lamp_walk.specs.WalkAnswers.{moveOf, spentEnding, walkOf, answerOf, walkAnswer};
+use job_file::read_job;
+use job_file::refusal_number;
+use job_file::Reading;
+use job_layout::places::column_count;
 use job_layout::Job;
 use job_tables::is_goal;
 use job_tables::moves_on;
@@ -116,4 +120,33 @@ pub fn walk_open(file: &[u8], job: Job, state: ProgramState, world: WorldState, 
     }
     let ending = spent(file, job, q, w, column);
     Walked::Ended(ending, k)
+}
+
+fn answer(walked: Walked) -> WalkAnswer
+    ensures { λ r. ⌜ r ≡ answerOf (walkOf walked) ⌝ }
+{
+    match walked {
+        Walked::Ended(ending, steps) => WalkAnswer::Ended(ending, steps),
+        Walked::Arrived(state, world, steps) => WalkAnswer::Arrived(state, world, steps),
+    }
+}
+
+// The one-lamp walk, for any file, program state, world state and column.
+pub fn walk_lamp(file: &[u8], state: ProgramState, world: WorldState, column: u8) -> WalkAnswer
+    ensures { λ r. ⌜ r ≡ walkAnswer (now (file .entry)) state world column ⌝ }
+{
+    let reading = read_job(file);
+    let Reading::Job(job) = reading else {
+        return WalkAnswer::Refused(refusal_number(reading));
+    };
+    if job.worlds <= world.0 {
+        return WalkAnswer::Refused(14);
+    }
+    if column_count(job.kinds) <= column as u16 {
+        return WalkAnswer::Refused(15);
+    }
+    if job.states < state.0 {
+        return WalkAnswer::Refused(16);
+    }
+    answer(walk_open(file, job, state, world, column))
 }
