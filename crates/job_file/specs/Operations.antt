@@ -29,8 +29,8 @@ abbrev pub startUnmarked : Tables → WorldState → Bool
 startUnmarked t start = leb (t .worlds) (start .0) || not (t .start start)
 
 -- 15: "line over 65,535 lamps or a kind not 1..C"
-abbrev pub lineWrong : Tables → List ℕ → Bool
-lineWrong t lamps = ltb 65535 (length lamps) || some-of lamps (outside 1 (t .kinds))
+abbrev pub lineWrong : ℕ → List ℕ → Bool
+lineWrong kinds lamps = ltb 65535 (length lamps) || some-of lamps (outside 1 kinds)
 
 -- ---- the operations
 
@@ -44,7 +44,7 @@ walkRules s q w column =
 
 abbrev pub runRules : List ℕ → WorldState → List ℕ → List Rule
 runRules s start lamps =
-    fileRules s ++ (14 when startUnmarked (tablesOf s) start) ∷ (15 when lineWrong (tablesOf s) lamps) ∷ []
+    fileRules s ++ (14 when startUnmarked (tablesOf s) start) ∷ (15 when lineWrong (tablesOf s .kinds) lamps) ∷ []
 
 -- The sizes of the lent line buffer, working list and words.
 abbrev pub checkRules : List ℕ → ℕ → ℕ → ℕ → List Rule

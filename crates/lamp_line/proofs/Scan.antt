@@ -1,11 +1,13 @@
 -- A loop that looks for a number below n with a property, from 0 upwards: what it knows on the way, and what its answer says.
 use mathlib.Core.Path.{_≡_, refl, sym, subst, _∙_}
 use mathlib.Core.Bool.{Bool, true, false, _||_, false≢true}
+use mathlib.Core.List.{List, [], _∷_}
+use lib.ListN.{length, getD}
 use Prim.Native.Nat.{ℕ, zero, suc, _+_, _≤_, _<_}
 use native.Mathlib.Decide.{ℕ-discrete}
 use native.Mathlib.Numerals.{add-one}
 use native.Mathlib.Omega.{arith}
-use Rattle.lamp_line.specs.Refusals.{some-below}
+use Rattle.lamp_line.specs.Refusals.{some-below, some-of}
 
 -- None of the numbers below i has the property.
 pub record NoneYet (p : ℕ → Bool) (n i : ℕ) : Type 0 where
@@ -56,3 +58,16 @@ some-at p (suc n) e = at (p n) refl e (some-at p n)
       (some-below n p ≡ true → (i : ℕ) × (i < n) × (p i ≡ true)) → (i : ℕ) × (i < suc n) × (p i ≡ true)
     at true here e earlier = (n, omega arith, here)
     at false here e earlier = let found = earlier e in (found .0, omega (arith, found .1), found .2)
+
+-- Some element of a list has a property exactly when some place of the list does.
+pub some-of-place : (p : ℕ → Bool) (l : List ℕ) (i : ℕ) → i < length l → p (getD l i 0) ≡ true → true ≡ some-of l p
+unfolding some-of
+some-of-place p [] i i< e = absurd (omega arith)
+some-of-place p (x ∷ l) zero i< e = rw e
+some-of-place p (x ∷ l) (suc i) i< e = rw (sym (some-of-place p l i (omega arith) e)) (sym (or-true (p x)))
+
+pub none-of-places : (p : ℕ → Bool) (l : List ℕ) → ((i : ℕ) → i < length l → p (getD l i 0) ≡ false) → false ≡ some-of l p
+unfolding some-of
+none-of-places p [] none = refl
+none-of-places p (x ∷ l) none =
+    rw (none 0 (omega arith)) (none-of-places p l (λ i i<. none (suc i) (omega arith)))

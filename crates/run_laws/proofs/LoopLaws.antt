@@ -1,19 +1,18 @@
 -- Laws for loops that count their steps upward: what such a loop still owes of the walk at one lamp, and of the run along the
 -- line. The laws say "k + 1", and have the answer on the left of an equation, as code has them.
 use mathlib.Core.Path.{_≡_, refl, sym, ap, _∙_}
-use mathlib.Core.Logic.{_≢_}
-use mathlib.Core.Bool.{Bool, true, false, cond}
+use mathlib.Core.Bool.{cond}
 use mathlib.Core.List.{List, [], _∷_}
 use Prim.Native.Nat.{ℕ, suc, _+_, _-_, _≤_, _<_}
 use native.Mathlib.Nat.{add-zero}
 use native.Mathlib.Omega.{arith}
-use borrow.Author.Tests.{eq-eqb, ne-eqb, le-leb, lt-leb}
+use borrow.Author.Tests.{lt-leb}
 use lib.ListN.{length, drop}
 use Rattle.lamp_line.specs.declared.FailureKind.the-variants.{Circles}
 use Rattle.lamp_line.specs.declared.Ending.{Ending}
 use Rattle.lamp_line.specs.declared.Ending.the-variants.{Failure}
 use Rattle.lamp_line.specs.Tables.{Tables, column}
-use Rattle.lamp_line.specs.Run.{Pair, ends, stays, passes, Walk, ended, arrived, Run, ran, within, stopped}
+use Rattle.lamp_line.specs.Run.{Pair, ends, stays, passes, Walk, ended, arrived, Run, ran, stopped}
 use Rattle.lamp_line.specs.Run.{ownSteps, isFinal, judged, act, walk, lampWalk, along, limited}
 use Rattle.run_laws.proofs.Actions.{lineOf}
 use Rattle.run_laws.proofs.Walks.{walkAfter, walk-spent, walk-ends, walk-stays, walk-passes}
@@ -111,11 +110,3 @@ module _ (t : Tables) (end : ℕ) (lamps₀ : List ℕ) (p₀ : Pair) where
       where
         go : (r : Run) → stopped limit ≡ limited limit (runAfter k r)
         go (ran x j) = rw (lt-leb (k + j) limit (omega arith))
-
--- A run that ends within the limit.
-pub limited-within : (limit k : ℕ) (x : Ending) (r : Run) → ran x k ≡ r → k ≤ limit → within x k ≡ limited limit r
-limited-within limit k x r e h = rw (← e, le-leb k limit h)
-
--- A run that ends beyond the limit.
-pub limited-stopped : (limit k : ℕ) (x : Ending) (r : Run) → ran x k ≡ r → limit < k → stopped limit ≡ limited limit r
-limited-stopped limit k x r e h = rw (← e, lt-leb k limit h)

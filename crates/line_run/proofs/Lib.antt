@@ -1,0 +1,2 @@
+pub mod RunLoop
+pub mod RunRules

@@ -1,0 +1,114 @@
+// The run of one given line (document 01, "One run"). `run_line` is the operation; it asks nothing of its caller.
+ghost use mathlib.Core.Path.{_≡_};
+ghost use mathlib.Core.Bool.{true};
+ghost use Prim.Native.Nat.{_≤_};
+ghost use lib.ListN.{length};
+ghost use Rattle.lamp_line.specs.Tables.{Kinds};
+ghost use Rattle.lamp_line.specs.Refusals.{some-of};
+ghost use Rattle.lamp_line.specs.Run.{ran, run, limited};
+ghost use Rattle.job_layout.specs.JobTables.{tablesOf};
+ghost use Rattle.job_rules.specs.Rules.{outside};
+ghost use Rattle.job_file.specs.Reading.{Opened};
+ghost use Rattle.job_file.specs.Operations.{lineWrong};
+ghost use Rattle.line_run.specs.RunAnswers.{lineOf, IsColumn, answerOf, runAnswer};
+use job_file::read_job;
+use job_file::refusal_number;
+use job_file::Reading;
+use job_layout::Job;
+use job_tables::is_start;
+use lamp_line::Ending;
+use lamp_line::WorldState;
+use lamp_walk::walk_open;
+use lamp_walk::Walked;
+
+// What a run answers. Its steps are those that it counted.
+pub enum RunAnswer {
+    Ended(Ending, u32),
+    Stopped(u32),
+    Refused(u8),
+}
+
+// One of the line's kinds is not one of 1 to `kinds`.
+fn any_outside(line: &[u8], kinds: u8) -> bool
+    ensures { λ r. ⌜ r ≡ some-of (now (line .entry)) (outside 1 kinds) ⌝ }
+{
+    let mut i = 0;
+    while i < line.len() {
+        let kind = line[i];
+        if (kind < 1) | (kinds < kind) {
+            return true;
+        }
+        i += 1;
+    }
+    false
+}
+
+fn line_wrong(line: &[u8], kinds: u8) -> bool
+    ensures { λ r. ⌜ r ≡ lineWrong kinds (now (line .entry)) ⌝ }
+{
+    (65535 < line.len()) | any_outside(line, kinds)
+}
+
+// The kind of the present lamp, or 0 when none is left.
+fn column_of(rest: &[u8]) -> u8
+    ensures { λ r. ⌜ IsColumn r (now (rest .entry)) ⌝ }
+{
+    if rest.len() == 0 {
+        return 0;
+    }
+    rest[0]
+}
+
+// An ending after k counted steps, or Stopped where k is above the limit.
+fn within_limit(ending: Ending, k: u64, limit: u32) -> RunAnswer
+    ensures { λ r. ⌜ r ≡ answerOf (limited limit (ran ending k)) ⌝ }
+{
+    if k <= limit as u64 {
+        return RunAnswer::Ended(ending, k as u32);
+    }
+    RunAnswer::Stopped(limit)
+}
+
+// The run in a file that is not refused, along a line of the job. At each passed lamp it hands on the part of the line behind it.
+fn run_open(file: &[u8], job: Job, start: WorldState, line: &[u8], limit: u32) -> RunAnswer
+    requires { ⌜ Opened (now file) job × (tablesOf (now file) .start start ≡ true) × Kinds (job .kinds) (now line) ⌝ }
+    ensures { λ r. ⌜ r ≡ answerOf (limited limit (run (tablesOf (now (file .entry))) start (lineOf (now (line .entry))))) ⌝ }
+{
+    let mut rest = line;
+    let mut q = job.first;
+    let mut w = start;
+    let mut k: u64 = 0;
+    loop {
+        let column = column_of(rest);
+        let walked = walk_open(file, job, q, w, column);
+        match walked {
+            Walked::Ended(ending, steps) => return within_limit(ending, k + steps as u64, limit),
+            Walked::Arrived(to, next, steps) => {
+                q = to;
+                w = next;
+                k += steps as u64;
+            }
+        }
+        if (limit as u64) < k {
+            return RunAnswer::Stopped(limit);
+        }
+        rest = &rest[1..];
+    }
+}
+
+// The run of a line from a start, for any file, start, line and limit.
+pub fn run_line(file: &[u8], start: WorldState, line: &[u8], limit: u32) -> RunAnswer
+    ensures { λ r. ⌜ r ≡ runAnswer (now (file .entry)) start (now (line .entry)) limit ⌝ }
+{
+    let reading = read_job(file);
+    let Reading::Job(job) = reading else {
+        return RunAnswer::Refused(refusal_number(reading));
+    };
+    if !is_start(file, job, start) {
+        return RunAnswer::Refused(14);
+    }
+    if line_wrong(line, job.kinds) {
+        return RunAnswer::Refused(15);
+    }
+    run_open(file, job, start, line, limit)
+}
