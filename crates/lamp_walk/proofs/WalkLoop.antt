@@ -26,13 +26,13 @@ pub record Walking (s : List ℕ) (n c : ℕ) (p₀ : Pair) (k : ℕ) (p : Pair)
   pub owes : WalkOwes (tablesOf s) n c p₀ k p
 
 -- An ending counts no step beyond those of the execution.
-counts-no-more : (x : Ending) (k : ℕ) → ended x k ≡ ended x (k + ownSteps x)
+pub counts-no-more : (x : Ending) (k : ℕ) → k ≡ k + ownSteps x
 unfolding ownSteps
-counts-no-more Goal k = ap (ended Goal) (sym (add-zero k))
-counts-no-more (Failure NotLegal) k = ap (ended _) (sym (add-zero k))
-counts-no-more (Failure NoBranch) k = ap (ended _) (sym (add-zero k))
-counts-no-more (Failure Circles) k = ap (ended _) (sym (add-zero k))
-counts-no-more (Failure GoalFalse) k = ap (ended _) (sym (add-zero k))
+counts-no-more Goal k = sym (add-zero k)
+counts-no-more (Failure NotLegal) k = sym (add-zero k)
+counts-no-more (Failure NoBranch) k = sym (add-zero k)
+counts-no-more (Failure Circles) k = sym (add-zero k)
+counts-no-more (Failure GoalFalse) k = sym (add-zero k)
 
 module _ (s : List ℕ) (j : Job) (opened : Opened s j) where
   -- A pair of the job's numbers is one of the tables', and the other way round.
@@ -75,9 +75,8 @@ module _ (s : List ℕ) (j : Job) (opened : Opened s j) where
           }
 
       pub walking-ends : k < j .states * j .worlds → (x : Ending) → ends x ≡ act (tablesOf s) p c →
-        ended x k ≡ lampWalk (tablesOf s) p₀ c
-      walking-ends k< x e =
-          whole-walk (counts-no-more x k ∙ walk-owes-ends (tablesOf s) _ c p₀ k p (walking .owes) k< x e)
+        ended x (k + ownSteps x) ≡ lampWalk (tablesOf s) p₀ c
+      walking-ends k< x e = whole-walk (walk-owes-ends (tablesOf s) _ c p₀ k p (walking .owes) k< x e)
 
       pub walking-passes : k < j .states * j .worlds → (p′ : Pair) → passes p′ ≡ act (tablesOf s) p c →
         arrived p′ (k + 1) ≡ lampWalk (tablesOf s) p₀ c

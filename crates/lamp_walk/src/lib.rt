@@ -1,9 +1,9 @@
 // The one-lamp walk (document 01, "One run"): from a program state and a world state at a column, to the pair on arriving at the next
 // lamp or to the ending there, with the steps counted. `walk_lamp` is the operation; it asks nothing of its caller.
 ghost use mathlib.Core.Path.{_≡_};
-ghost use Prim.Native.Nat.{_≤_, _<_};
+ghost use Prim.Native.Nat.{_+_, _≤_, _<_};
 ghost use Rattle.lamp_line.specs.Tables.{columns};
-ghost use Rattle.lamp_line.specs.Run.{judged, pair, act, lampWalk};
+ghost use Rattle.lamp_line.specs.Run.{judged, pair, ownSteps, act, lampWalk};
 ghost use Rattle.job_layout.specs.JobTables.{tablesOf};
 ghost use Rattle.job_file.specs.Reading.{Opened};
 ghost use Rattle.lamp_walk.specs.WalkAnswers.{moveOf, spentEnding, walkOf, answerOf, walkAnswer};
@@ -96,6 +96,13 @@ fn spent(file: &[u8], job: Job, state: ProgramState, world: WorldState, column: 
     Ending::Failure(FailureKind::Circles)
 }
 
+// The steps that an ending counts, with those made before it: failure 2's own step is not counted.
+fn counted(ending: Ending, made: u32) -> u32
+    ensures { λ r. ⌜ r ≡ made + ownSteps ending ⌝ }
+{
+    made
+}
+
 // The walk in a file that is not refused. It is for the crates above and not for users: it asks for the job that the reader
 // answered for this file, and for numbers within the tables.
 pub fn walk_open(file: &[u8], job: Job, state: ProgramState, world: WorldState, column: u8) -> Walked
@@ -109,7 +116,7 @@ pub fn walk_open(file: &[u8], job: Job, state: ProgramState, world: WorldState, 
     while k < most {
         let step = one_action(file, job, q, w, column);
         match step {
-            Move::Ends(ending) => return Walked::Ended(ending, k),
+            Move::Ends(ending) => return Walked::Ended(ending, counted(ending, k)),
             Move::Passes(to, next) => return Walked::Arrived(to, next, k + 1),
             Move::Stays(to, next) => {
                 q = to;

@@ -1,2 +1,3 @@
 pub mod RunLoop
 pub mod RunRules
+pub mod RunTheorem

@@ -65,7 +65,8 @@ pub record Running (s : List ℕ) (j : Job) (limit : ℕ) (lamps₀ : List ℕ) 
   pub kinds : Kinds (j .kinds) rest
   pub owes : RunOwes (tablesOf s) 0 lamps₀ p₀ k rest p
 
-at-one-end : (t : Tables) → 0 < endKinds t
+-- Column 0 is a line end.
+pub at-one-end : (t : Tables) → 0 < endKinds t
 unfolding endKinds
 at-one-end t = omega arith
 

@@ -42,20 +42,25 @@ one-action-requires c κs =
 enum-known-step : tie.Need-enum-known-step Inv-loop μ-loop
 enum-known-step c = search needs
 
+counted-requires : tie.Need-counted-requires Inv-loop μ-loop
+counted-requires c κs = search needs
+
 returns : tie.Need-returns Inv-loop μ-loop
 returns c =
-    let a = c .before .before .before in
+    let g = c .before .before in
+    let a = g .before .before in
     let l = a .before .before in
     let b = l .before .before .before .before in
-    walking-ends (b .args .file .now) (b .args .job) (b .pre .0) (b .args .column) (pair (b .args .state) (b .args .world))
-    (l .loop .k) (pair (l .loop .q) (l .loop .w)) (l .loop .inv) (a .before .loop-test .taken) (c .before .step .given .0 .0)
-    (ap moveOf (sym (c .before .step .given .1)) ∙ a .one-action .ensures)
+    ap (ended (g .step .given .0 .0)) (c .counted .ensures)
+    ∙ walking-ends (b .args .file .now) (b .args .job) (b .pre .0) (b .args .column) (pair (b .args .state) (b .args .world))
+    (l .loop .k) (pair (l .loop .q) (l .loop .w)) (l .loop .inv) (a .before .loop-test .taken) (g .step .given .0 .0)
+    (ap moveOf (sym (g .step .given .1)) ∙ a .one-action .ensures)
 
 enum-known-step-2 : tie.Need-enum-known-step-2 Inv-loop μ-loop
 enum-known-step-2 c = search needs
 
-add-t20 : tie.Need-add-t20 Inv-loop μ-loop
-add-t20 c =
+add-t21 : tie.Need-add-t21 Inv-loop μ-loop
+add-t21 c =
     let a = c .before .before .before in
     let b = a .before .before .before .before .before .before in
     omega (arith, a .before .loop-test .taken, few-steps (b .args .file .now) (b .args .job) (b .pre .0))
@@ -118,9 +123,10 @@ walk-open-spec =
     loop-holds
     one-action-requires
     enum-known-step
+    counted-requires
     returns
     enum-known-step-2
-    add-t20
+    add-t21
     returns-2
     enum-known-step-3
     add-k
