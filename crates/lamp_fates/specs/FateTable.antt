@@ -7,7 +7,7 @@ use lib.ListN.{getD}
 use Rattle.lamp_line.specs.declared.Ending.the-variants.{Goal, Failure}
 use Rattle.lamp_line.specs.Tables.{Tables, programState, worldState, columns}
 use Rattle.lamp_line.specs.Endings.{kindNumber}
-use Rattle.lamp_line.specs.Run.{Pair, pair, Walk, ended, arrived, lampWalk}
+use Rattle.lamp_line.specs.Run.{pair, Walk, ended, arrived, lampWalk}
 
 -- Where the fate of a pair at a column stands: column, then program state, then world state.
 abbrev pub fatePlace : ℕ → ℕ → ℕ → ℕ

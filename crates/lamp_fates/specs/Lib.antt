@@ -1,1 +1,2 @@
+pub mod ColumnTable
 pub mod FateTable

@@ -1,0 +1,4 @@
+pub mod AllColumns
+pub mod Entries
+pub mod JobColumns
+pub mod Rounds
