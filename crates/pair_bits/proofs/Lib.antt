@@ -1,0 +1,3 @@
+pub mod WordBits
+pub mod SetBits
+pub mod Counts

@@ -1,0 +1,21 @@
+-- Each case is the definition's.
+use borrow.Author.Needs.{needs}
+use mathlib.Core.Path.{sym, ap}
+use Rattle.plan_check.specs.CheckAnswers.{answerOf}
+use Rattle.plan_check.proofs.answer.Statement.{statement}
+use Rattle.plan_check.proofs.answer.Tie as tie
+
+enum-known-found : tie.Need-enum-known-found
+enum-known-found c = search needs
+
+enum-known-found-2 : tie.Need-enum-known-found-2
+enum-known-found-2 c = search needs
+
+returns : tie.Need-returns
+returns c = ap answerOf (sym (c .before .found .given .1))
+
+returns-2 : tie.Need-returns-2
+returns-2 c = ap answerOf (sym (c .before .found2 .given .1))
+
+pub answer-spec : {M : Type 1} → statement M
+answer-spec = tie.close (tie.spec enum-known-found enum-known-found-2 returns returns-2)

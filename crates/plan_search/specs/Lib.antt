@@ -1,0 +1,4 @@
+pub mod ListEntries
+pub mod FateReading
+pub mod Searching
+pub mod Answer
