@@ -5,7 +5,7 @@ use mathlib.Core.Bool.{Bool, true, false}
 use mathlib.Core.List.{List, [], _∷_}
 use Prim.Native.Nat.{ℕ, zero, suc, _+_, _-_, _≤_, _<_}
 use native.Mathlib.Omega.{arith}
-use borrow.Author.Tests.{ltb-false}
+use borrow.Author.Tests.{ltb-false, le-ltb}
 use lib.Dec.{ltb}
 use lib.ListN.{length, getD, take, drop, length-drop}
 use lib.Seq.{take-all}
@@ -40,6 +40,16 @@ right-kinds kinds (kind ∷ lamps) e =
 -- A line to which rule 15 does not apply.
 pub line-right : (kinds : ℕ) (lamps : List ℕ) → lineWrong kinds lamps ≡ false → Kinds kinds lamps
 line-right kinds lamps e = right-kinds kinds lamps (neither (ltb 65535 (length lamps)) _ e .1)
+
+-- And the other way round.
+none-outside : (kinds : ℕ) (lamps : List ℕ) → Kinds kinds lamps → some-of lamps (outside 1 kinds) ≡ false
+unfolding some-of Kinds
+none-outside kinds [] k = refl
+none-outside kinds (kind ∷ lamps) (low, high, rest) =
+    rw (le-ltb kind 1 low, le-ltb kinds kind high) (none-outside kinds lamps rest)
+
+pub line-not-wrong : (kinds : ℕ) (lamps : List ℕ) → length lamps ≤ 65535 → Kinds kinds lamps → lineWrong kinds lamps ≡ false
+line-not-wrong kinds lamps few k = rw (le-ltb 65535 (length lamps) few) (none-outside kinds lamps k)
 
 -- The lamps behind the first are of the kinds too.
 behind-kinds : (kinds : ℕ) (lamps : List ℕ) → Kinds kinds lamps → Kinds kinds (drop 1 lamps)

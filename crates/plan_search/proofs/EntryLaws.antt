@@ -1,12 +1,12 @@
--- The entries of the list's words: a word that is put together comes apart again, a word stored behind the others is one entry more,
--- and each entry is told by its own word and its parent's entry.
+-- The entries of the list's words: a word that is put together comes apart again, a word stored behind the others is one entry
+-- more, and each entry is told by its own word and its parent's entry.
 use mathlib.Core.Path.{_≡_, refl, sym, ap, subst, _∙_}
 use mathlib.Core.List.{List, [], _∷_, _++_}
 use Prim.Native.Nat.{ℕ, zero, suc, _+_, _*_, _/_, _%_, _≤_, _<_}
 use native.Mathlib.Numerals.{add-one}
 use native.Mathlib.Omega.{arith}
 use lib.ListN.{length, getD, take, drop, set, take-append-drop, List·getD-append}
-use lib.Seq.{length-take-le, take-suc, take-suc-set, take-take, getD-take}
+use lib.Seq.{length-take-le, take-suc, take-suc-set, getD-take}
 use Rattle.search_laws.proofs.Lex.{_▸_}
 use Rattle.search_laws.proofs.Table.{Entry, entry, entryAt, node, start, path}
 use Rattle.search_laws.proofs.Grown.{grown, onward, grown-length, grown-new}
@@ -16,7 +16,8 @@ use Rattle.plan_search.specs.ListEntries.{packed, unpacked, entryOf, ent
 -- A word that is put together comes apart again.
 pub unpacked-packed : (p : Placed) → p .pair < 8192 → p .parent < 8192 → unpacked (packed p) ≡ p
 unfolding packed unpacked
-unpacked-packed p h k = rw (pair-is (p .pair) (p .parent) (p .kind) h, parent-is (p .pair) (p .parent) (p .kind) h k,
+unpacked-packed p h k =
+    rw (pair-is (p .pair) (p .parent) (p .kind) h, parent-is (p .pair) (p .parent) (p .kind) h k,
     kind-is (p .pair) (p .parent) (p .kind) h k)
   where
     pair-is : (y h k : ℕ) → y < 8192 → (y + 8192 * (h + 8192 * k)) % 8192 ≡ y
@@ -126,7 +127,8 @@ entry-placed ws i l =
     z = entryOf E (unpacked (getD ws i 0))
 
 -- Its node is the pair of its word.
-pub entries-node : (list : List ℕ) (n i : ℕ) → i < n → n ≤ length list →
+pub entries-node :
+  (list : List ℕ) (n i : ℕ) → i < n → n ≤ length list →
   node (entries (take n list)) i ≡ unpacked (getD list i 0) .pair
 entries-node list n i l h =
     ap (λ (v : Entry). v .node) (entry-placed (take n list) i (omega (arith, length-take-le n list h)))

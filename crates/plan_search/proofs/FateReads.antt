@@ -4,18 +4,15 @@ use Prim.Native.Nat.{ℕ, _+_, _*_, _-_, _/_, _%_, _≤_, _<_}
 use native.Mathlib.Nat.{mod-lt, div-lt-iff-lt-mul}
 use native.Mathlib.Omega.{arith}
 use borrow.Author.Tests.{ne-eqb, le-ltb}
-use lib.Arith.{digits-div, digits-mod}
-use lib.Dec.{eqb, ltb}
-use lib.ListN.{getD}
 use mathlib.Core.List.{List}
 use Rattle.lamp_line.specs.declared.FailureKind.the-variants.{NotLegal, NoBranch, Circles, GoalFalse}
 use Rattle.lamp_line.specs.declared.Ending.the-variants.{Goal, Failure}
-use Rattle.lamp_line.specs.Tables.{Tables, WellFormed, programState, worldState, columns}
+use Rattle.lamp_line.specs.Tables.{Tables, programState, worldState, columns}
 use Rattle.lamp_line.specs.Run.{Pair, pair, Walk, ended, arrived, lampWalk}
 use Rattle.run_laws.proofs.Pairs.{pairNumber}
 use Rattle.run_laws.proofs.Walks.{arrived-in-range}
 use Rattle.lamp_fates.specs.FateTable.{fatePlace, fateEntry, HoldsFates}
-use Rattle.check_laws.specs.Fates.{pairOf, Fate, arrives, fateOf, fate}
+use Rattle.check_laws.specs.Fates.{pairOf, arrives, fateOf, fate}
 use Rattle.plan_search.specs.FateReading.{fateFrom, fateIn}
 use Rattle.plan_search.specs.Searching.{pairs, Ready}
 
@@ -61,10 +58,11 @@ from-entry worlds (ended (Failure GoalFalse) k) h = refl
 from-entry worlds (arrived p k) h = from-pair worlds (p .state .0) (p .world .0) (h p k refl)
 
 module _ (t : Tables) (fates : List ℕ) (worlds : ℕ) (ready : Ready t fates worlds) where
-  -- There are at least one and at most 64 world states.
+  -- There is a world state.
   pub worlds-low : 1 ≤ worlds
   worlds-low = omega (arith, ready .worlds-are, ready .well-formed .worlds-range .0)
 
+  -- There are at most 64.
   pub worlds-high : worlds ≤ 64
   worlds-high = omega (arith, ready .worlds-are, ready .well-formed .worlds-range .1)
 

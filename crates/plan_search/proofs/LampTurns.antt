@@ -1,10 +1,10 @@
 -- The turn of a placed pair with a kind of lamp: what each fate of the pair makes of the search.
 use mathlib.Core.Path.{_≡_, sym, ap, subst, _∙_}
-use mathlib.Core.Logic.{_≢_, _⊎_, inl, inr}
+use mathlib.Core.Logic.{_≢_, inl, inr}
 use mathlib.Core.List.{List}
-use Prim.Native.Nat.{ℕ, _+_, _*_, _≤_, _<_}
+use Prim.Native.Nat.{ℕ, _+_, _≤_, _<_}
 use native.Mathlib.Omega.{arith}
-use lib.ListN.{length, getD, take, set}
+use lib.ListN.{getD, take, set}
 use Rattle.lamp_line.specs.declared.FailureKind.{FailureKind}
 use Rattle.lamp_line.specs.Tables.{Tables, lampColumn, worldState}
 use Rattle.lamp_line.specs.Check.{Counterexample}
@@ -22,7 +22,7 @@ use Rattle.plan_search.specs.declared.Turn.{Turn}
 use Rattle.plan_search.specs.declared.Turn.the-variants.{Fails, Holds}
 use Rattle.plan_search.specs.ListEntries.{packed, unpacked, entries}
 use Rattle.plan_search.specs.FateReading.{fateIn}
-use Rattle.plan_search.specs.Searching.{pairs, Ready, Listed, Searching, WasMet, IsPlaced, Came, After}
+use Rattle.plan_search.specs.Searching.{pairs, Ready, Searching, Came, After}
 use Rattle.plan_search.proofs.EntryLaws.{entry-lamp, entries-node}
 use Rattle.plan_search.proofs.FateReads.{fate-read}
 use Rattle.plan_search.proofs.ListLaws.{pairs-few, count-fits, entries-are, entries-grown, listed-placed}
@@ -47,6 +47,7 @@ module _
   pub tried-in : h < n
   tried-in = omega (arith, searching .at .inv .b≤n, entries-are t list words n (searching .listed))
 
+  -- So its place is below the number of pairs.
   pub tried-below : h < pairs t
   tried-below = omega (arith, tried-in, count-fits t list words n (searching .listed))
 
@@ -73,7 +74,8 @@ module _
         ap (λ (y : ℕ). fate t y k) node-is ∙ sym (fate-read t fates worlds ready x k tried-range high) ∙ e
 
     -- The run ends there with the goal true.
-    pub turn-succeeds : fateIn fates worlds (unpacked (getD list h 0) .pair) k ≡ succeeds → After t list n h k (Holds n) list words
+    pub turn-succeeds :
+      fateIn fates worlds (unpacked (getD list h 0) .pair) k ≡ succeeds → After t list n h k (Holds n) list words
     turn-succeeds e =
         record {
           listed = searching .listed;
@@ -90,6 +92,7 @@ module _
 
     -- It arrives with the pair y, which is then visited.
     module _ (y : ℕ) (arrival : fateIn fates worlds (unpacked (getD list h 0) .pair) k ≡ arrives y) where
+      -- It is a pair of the tables.
       pub arrival-range : y < pairs t
       arrival-range = to-bound t (ready .well-formed) (node E h) k y (fate-is (arrives y) arrival)
 
@@ -99,6 +102,7 @@ module _
       end-read : fateIn fates worlds y 0 ≡ fate t y 0
       end-read = fate-read t fates worlds ready y 0 arrival-range (omega arith)
 
+      -- What visiting it comes to is what the turn comes to.
       pub turn-came :
         (r : Turn) (list′ words′ : List ℕ) →
         Came fates worlds list words n (record { pair = y; parent = h; kind = k }) r list′ words′ →

@@ -1,6 +1,6 @@
--- The loops that follow the parents of a placed pair to its start: the lamps passed are counted, then written from the last to the
--- first.
-use mathlib.Core.Path.{_≡_, refl, sym, ap, subst, _∙_}
+-- The loops that follow the parents of a placed pair to its start: the lamps passed are counted, then written from the last to
+-- the first.
+use mathlib.Core.Path.{_≡_, refl, sym, ap, _∙_}
 use mathlib.Core.Logic.{_≢_}
 use mathlib.Core.List.{List, [], _∷_, _++_}
 use Prim.Native.Nat.{ℕ, suc, _+_, _-_, _≤_, _<_}
@@ -73,8 +73,8 @@ module _ (list : List ℕ) (chained : Chained list) (place : ℕ) (p : Placed) (
 
 -- ---- writing
 
--- The line of the placed pair at `from` with a lamp of the kind more is written from its end down to the lamp at the place `at` of
--- the buffer, which is the next.
+-- The line of the placed pair at `from` with a lamp of the kind more is written from its end down to the place `at` of the
+-- buffer, where the next lamp goes.
 pub record Writing (list line₀ : List ℕ) (from kind lamps : ℕ) (line : List ℕ) (at place lamp : ℕ) : Type 0 where
   pub placed : place < length list
   -- The lamps before the place go to the front of the buffer, which has room for them and the next.
@@ -84,7 +84,8 @@ pub record Writing (list line₀ : List ℕ) (from kind lamps : ℕ) (line : Lis
   -- The start is the same.
   pub same-start : start (entries list) place ≡ start (entries list) from
   -- What is still to be written, before what stands in the buffer, gives the whole.
-  pub owed : (path (entries list) from ▸ kind) ++ drop (lamps + 1) line₀ ≡ (path (entries list) place ▸ lamp) ++ drop (at + 1) line
+  pub owed :
+    (path (entries list) from ▸ kind) ++ drop (lamps + 1) line₀ ≡ (path (entries list) place ▸ lamp) ++ drop (at + 1) line
 
 -- Before the first lamp is written.
 pub writing-starts :

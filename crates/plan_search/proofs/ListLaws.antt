@@ -1,8 +1,8 @@
 -- The list and the bits together: how many pairs there are, that a new pair has room, and what placing one makes of the list.
 use mathlib.Core.Path.{_≡_, refl, sym, ap, subst, _∙_}
-use mathlib.Core.Logic.{_≢_, _⊎_, inl, inr, ⊎-elim}
+use mathlib.Core.Logic.{_≢_, _⊎_, inl, inr}
 use mathlib.Core.Bool.{true, false}
-use mathlib.Core.List.{List, []}
+use mathlib.Core.List.{List}
 use Prim.Native.Nat.{ℕ, _+_, _*_, _≤_, _<_}
 use native.Mathlib.Decide.{ℕ-discrete}
 use native.Mathlib.Nat.{mul-le-mul-right}
@@ -11,9 +11,9 @@ use lib.ListN.{length, getD, take, set, length-set}
 use lib.Seq.{getD-set-same, getD-set-other}
 use Rattle.lamp_line.specs.Tables.{Tables}
 use Rattle.lamp_line.proofs.Products.{product-le}
-use Rattle.pair_bits.specs.Bits.{bitAt, countTo, Cleared, OnlySet}
+use Rattle.pair_bits.specs.Bits.{bitAt, Cleared, OnlySet}
 use Rattle.pair_bits.proofs.Counts.{count-le, count-cleared, count-one, count-lt}
-use Rattle.search_laws.proofs.Table.{Entry, entryAt, node}
+use Rattle.search_laws.proofs.Table.{Entry, node}
 use Rattle.search_laws.proofs.Grown.{below-or-last, grown, grown-new, still-at}
 use Rattle.plan_search.specs.declared.Placed.{Placed}
 use Rattle.plan_search.specs.ListEntries.{packed, unpacked, entryOf, entries}
@@ -80,7 +80,8 @@ module _ (t : Tables) (list words : List ℕ) (n : ℕ) (listed : Listed t list 
     room = omega (arith, room-left (p .pair) pair-range unmarked, listed .list-room)
 
     -- There is one entry more.
-    pub entries-grown : entries (take (n + 1) (set list n (packed p))) ≡ grown (entries (take n list)) (entryOf (entries (take n list)) p)
+    pub entries-grown :
+      entries (take (n + 1) (set list n (packed p))) ≡ grown (entries (take n list)) (entryOf (entries (take n list)) p)
     entries-grown = entries-stored list n p room (omega arith) parent-range
 
     old : (i : ℕ) → i < n → node (entries (take (n + 1) list′)) i ≡ node E i

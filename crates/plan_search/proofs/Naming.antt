@@ -1,9 +1,9 @@
 -- The failing line that is written: it is as long as the counterexample may be, and with it the answer names the counterexample.
 use mathlib.Core.Path.{_≡_, refl, sym, ap, ap₂, subst, _∙_}
-use mathlib.Core.List.{List, [], _++_}
+use mathlib.Core.List.{List, []}
 use Prim.Native.Nat.{ℕ, _+_, _*_, _≤_, _<_}
 use native.Mathlib.Omega.{arith}
-use lib.ListN.{length, take, drop, length-append}
+use lib.ListN.{length, take, drop}
 use lib.Seq.{take-at, drop-at, length-take-le}
 use Rattle.lamp_line.specs.declared.FailureKind.{FailureKind}
 use Rattle.lamp_line.specs.declared.WorldState.{WorldState}
@@ -47,10 +47,11 @@ pub names-empty :
 names-empty t kind w line fails = record { counterexample = fails; within = omega arith; rest = refl }
 
 module _ (t : Tables) (list : List ℕ) (n h k : ℕ) (kind : FailureKind) (fails : LampFails t list n h k kind) where
-  -- The pair is among the first n words of the list.
+  -- The pair is one of the first n words of the list.
   pub taken-size : length (take n list) ≡ n
   taken-size = length-take-le n list (fails .within)
 
+  -- So it stands there.
   pub in-taken : h < length (take n list)
   in-taken = omega (arith, taken-size, fails .placed)
 
@@ -93,7 +94,8 @@ module _ (t : Tables) (list : List ℕ) (n h k : ℕ) (kind : FailureKind) (fail
 
 -- The buffer has room for the line.
 pub line-fits :
-  (s : List ℕ) (j : Job) → Opened s j → (list : List ℕ) (n h k : ℕ) (kind : FailureKind) → LampFails (tablesOf s) list n h k kind →
+  (s : List ℕ) (j : Job) → Opened s j → (list : List ℕ) (n h k : ℕ) (kind : FailureKind) →
+  LampFails (tablesOf s) list n h k kind →
   (lamps size : ℕ) → lamps ≡ length (path (entries (take n list)) h) → j .states * j .worlds + 1 ≤ size → lamps < size
 line-fits s j opened list n h k kind fails lamps size e room =
     omega (arith, lamps-fit (tablesOf s) list n h k kind fails,

@@ -1,17 +1,16 @@
 -- The loops of the search over the placed pairs and the kinds of lamps, and where they end.
-use mathlib.Core.Path.{_≡_, refl, sym, ap, ap₂, subst, _∙_}
+use mathlib.Core.Path.{_≡_, refl, sym, ap₂, subst, _∙_}
 use mathlib.Core.List.{List, []}
 use Prim.Native.Nat.{ℕ, _+_, _*_, _≤_, _<_}
 use native.Mathlib.Omega.{arith}
-use lib.ListN.{length, getD, take}
+use lib.ListN.{length, take}
 use lib.Seq.{length-take-le, getD-take}
 use Rattle.lamp_line.specs.declared.FailureKind.{FailureKind}
 use Rattle.lamp_line.specs.declared.WorldState.{WorldState}
-use Rattle.lamp_line.specs.Tables.{Tables, worldState}
+use Rattle.lamp_line.specs.Tables.{Tables}
 use Rattle.lamp_line.specs.Check.{Counterexample, Accepts}
 use Rattle.job_layout.specs.declared.Job.{Job}
 use Rattle.job_layout.specs.JobTables.{tablesOf}
-use Rattle.job_file.specs.Reading.{Opened}
 use Rattle.job_tables.proofs.Ranges.{states-are, worlds-are, kinds-are, well-formed}
 use Rattle.pair_bits.specs.Bits.{countTo, Cleared}
 use Rattle.run_laws.proofs.Actions.{lineOf}
@@ -22,7 +21,7 @@ use Rattle.plan_search.specs.declared.Starts.{Starts}
 use Rattle.plan_search.specs.declared.Starts.the-variants as starts
 use Rattle.plan_search.specs.declared.Turn.{Turn}
 use Rattle.plan_search.specs.declared.Turn.the-variants.{Fails, Holds}
-use Rattle.plan_search.specs.ListEntries.{unpacked, entries, Chained}
+use Rattle.plan_search.specs.ListEntries.{entries, Chained}
 use Rattle.plan_search.specs.Searching.{pairs, Ready, Listed, Searching, After, AfterStarts}
 use Rattle.plan_search.specs.Answer.{CanSearch, LampFails}
 use Rattle.plan_search.proofs.ListLaws.{pairs-few, listed-empty, count-fits, entries-are}
@@ -55,9 +54,11 @@ module _ (s : List ℕ) (j : Job) (fates list words : List ℕ) (can : CanSearch
   pairs-are =
       ap₂ (λ (q w : ℕ). (q + 1) * w) (states-are s j (can .opened)) (worlds-are s j (can .opened))
 
+  -- They are few.
   pub job-pairs-few : (j .states + 1) * j .worlds ≤ 4160
   job-pairs-few = rw pairs-are (pairs-few (tablesOf s) fates (j .worlds) ready-for)
 
+  -- The number of kinds.
   pub job-kinds : j .kinds ≡ tablesOf s .kinds
   job-kinds = kinds-are s j (can .opened)
 

@@ -1,6 +1,6 @@
 -- The starts, in ascending order: what each makes of the list, and that the first placed pair is tried once all are taken.
 use mathlib.Core.Path.{_≡_, refl, sym, ap, subst, _∙_}
-use mathlib.Core.Logic.{_≢_, _⊎_, inl, inr}
+use mathlib.Core.Logic.{_≢_, inl, inr}
 use mathlib.Core.Bool.{true, false}
 use mathlib.Core.List.{List, []}
 use Prim.Native.Nat.{ℕ, _+_, _*_, _≤_, _<_}
@@ -106,6 +106,7 @@ module _ (t : Tables) (fates : List ℕ) (worlds : ℕ) (ready : Ready t fates w
         let same = plain t (ready .well-formed) .start-own (start E j) s y (m, sym e ∙ own) (marked, is) in
         omega (arith, starting .begun .taken j l′)
 
+    -- What visiting it comes to is what the start comes to.
     pub start-came :
       s < 8192 → (r : Turn) (list′ words′ : List ℕ) →
       Came fates worlds list words n (record { pair = y; parent = s; kind = 0 }) r list′ words′ → AfterStart t s r list′ words′

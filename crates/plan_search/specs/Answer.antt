@@ -20,8 +20,8 @@ use Rattle.plan_search.specs.declared.Found.{Found}
 use Rattle.plan_search.specs.declared.Found.the-variants.{Accepted, Failed}
 use Rattle.plan_search.specs.ListEntries.{entries, Chained}
 
--- The file is not refused, the table holds its fates, and there is room for all pairs: "working list under (S+1)·W 32-bit numbers,
--- or words too few for (S+1)·W bits" does not apply.
+-- The file is not refused, the table holds its fates, and there is room for all pairs: refusal 13, "working list under (S+1)·W
+-- 32-bit numbers, or words too few for (S+1)·W bits", does not apply.
 pub record CanSearch (s : List ℕ) (j : Job) (fates list words : List ℕ) : Type 0 where
   pub opened : Opened s j
   pub holds : HoldsFates (tablesOf s) fates
@@ -53,6 +53,7 @@ pub record LampFails (t : Tables) (list : List ℕ) (n h k : ℕ) (kind : Failur
   pub within : n ≤ length list
   pub chained : Chained (take n list)
 
+-- What is known where the search ends.
 abbrev pub Searched : Tables → Halted → List ℕ → Type 0
 Searched t (Through count) list = Accepts t count
 Searched t (AtStart kind start) list = Counterexample t kind start (lineOf 0 [])

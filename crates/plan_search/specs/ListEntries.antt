@@ -1,5 +1,5 @@
--- The working list as the search's table of entries: each word holds a pair, the place of its parent and the kind of the lamp passed
--- from there, so an entry's start and lamps are read off the words before it.
+-- The working list as the search's table of entries: each word holds a pair, the place of its parent and the kind of the lamp
+-- passed from there, so an entry's start and lamps are read off the words before it.
 use mathlib.Core.List.{List, [], _∷_}
 use Prim.Native.Nat.{ℕ, zero, suc, _+_, _*_, _/_, _%_, _≤_, _<_}
 use lib.ListN.{length, getD}
@@ -16,11 +16,12 @@ packed p = p .pair + 8192 * (p .parent + 8192 * p .kind)
 unfoldable pub unpacked : ℕ → Placed
 unpacked w = record { pair = w % 8192; parent = w / 8192 % 8192; kind = w / 67108864 }
 
--- The entry of a pair behind the entries of E, by its kind: a start's own, or the parent's with one lamp more.
+-- By the kind: a start's own entry, or the parent's with one lamp more.
 abbrev entryBy : ℕ → List Entry → ℕ → ℕ → Entry
 entryBy zero E x h = entry x h []
 entryBy (suc k) E x h = entry x (start E h) (path E h ▸ suc k)
 
+-- The entry of a placed pair behind the entries of E.
 unfoldable pub entryOf : List Entry → Placed → Entry
 entryOf E p = entryBy (p .kind) E (p .pair) (p .parent)
 

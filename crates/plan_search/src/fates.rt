@@ -39,6 +39,7 @@ fn fate_of(number: u16, worlds: u8) -> Fate
     Fate::Arrives(code / 64 * worlds as usize + code % 64)
 }
 
+// The fate of the pair with this number at a column.
 pub fn read_fate(fates: &[u16], worlds: u8, pair: usize, column: u8) -> Fate
     requires { ⌜ (length (now fates) ≡ 66560) × (1 ≤ worlds) × (worlds ≤ 64) × (pair < 65 * worlds) × (column ≤ 15) ⌝ }
     ensures { λ r. ⌜ fateTo r ≡ fateIn (now (fates .entry)) worlds pair column ⌝ }

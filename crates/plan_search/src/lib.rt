@@ -1,17 +1,17 @@
-// The search of the check (document 01, "The check") over a filled table of fates: the pairs reached are placed in a working list,
-// each with the place of its parent and the kind that led to it, until a line fails or no pair is left.
-ghost use mathlib.Core.Path.{_≡_};
+// The search of the check (document 01, "The check") over a filled table of fates: the pairs reached are placed in a working
+// list, each with the place of its parent and the kind that led to it, until a line fails or no pair is left.
 ghost use Prim.Native.Nat.{_+_, _*_, _≤_, _<_};
 ghost use lib.ListN.{length};
 ghost use Rattle.job_layout.specs.JobTables.{tablesOf};
 ghost use Rattle.job_file.specs.Reading.{Opened};
-ghost use Rattle.plan_search.specs.Searching.{Ready, Listed, Starting, CanVisit, CanTurn, Came, Turned, AfterStart, AfterStarts};
+ghost use Rattle.plan_search.specs.Searching.{Ready, Listed, Starting, CanVisit, CanTurn};
+ghost use Rattle.plan_search.specs.Searching.{Came, Turned, AfterStart, AfterStarts};
 ghost use Rattle.plan_search.specs.Answer.{CanSearch, Searched, Finds};
 use crate::fates::read_fate;
-use crate::list::pack;
-use crate::list::unpack;
 use crate::line::lamps_before;
 use crate::line::write_line;
+use crate::list::pack;
+use crate::list::unpack;
 use job_layout::Job;
 use job_tables::is_start;
 use lamp_line::FailureKind;
@@ -174,7 +174,8 @@ fn search_pairs(fates: &[u16], file: &[u8], job: Job, list: &mut [u32], words: &
 // The search of the check: the number of pairs reached, where no line fails; else the first failure, whose line is written at the
 // front of the line buffer.
 pub fn search(fates: &[u16], file: &[u8], job: Job, line: &mut [u8], list: &mut [u32], words: &mut [u64]) -> Found
-    requires { ⌜ CanSearch (now file) job (now fates) (now list) (now words) × (job .states * job .worlds + 1 ≤ length (now line)) ⌝ }
+    requires { ⌜ CanSearch (now file) job (now fates) (now list) (now words)
+      × (job .states * job .worlds + 1 ≤ length (now line)) ⌝ }
     ensures { λ r. ⌜ Finds (tablesOf (now (file .entry))) r (now (line .entry)) (now (line .exit)) ⌝ }
 {
     let halted = search_pairs(fates, file, job, list, words);

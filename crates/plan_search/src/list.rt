@@ -4,6 +4,7 @@ ghost use Prim.Native.Nat.{_<_};
 ghost use Rattle.plan_search.specs.ListEntries.{packed, unpacked};
 use crate::Placed;
 
+// The word of a placed pair.
 pub fn pack(placed: Placed) -> u32
     requires { ⌜ (placed .pair < 8192) × (placed .parent < 8192) × (placed .kind < 64) ⌝ }
     ensures { λ r. ⌜ r ≡ packed placed ⌝ }
@@ -11,6 +12,7 @@ pub fn pack(placed: Placed) -> u32
     (placed.pair + 8192 * (placed.parent + 8192 * placed.kind as usize)) as u32
 }
 
+// The placed pair of a word.
 pub fn unpack(word: u32) -> Placed
     ensures { λ r. ⌜ r ≡ unpacked word ⌝ }
 {

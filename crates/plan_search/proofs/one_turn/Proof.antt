@@ -4,7 +4,7 @@ use mathlib.Core.Path.{_≡_, refl, sym, ap, _∙_}
 use native.Mathlib.Omega.{arith}
 use lib.ListN.{getD}
 use Rattle.plan_search.specs.declared.Fate.{Fate}
-use Rattle.plan_search.specs.declared.Fate.the-variants.{Succeeds, Fails, Arrives}
+use Rattle.plan_search.specs.declared.Fate.the-variants.{Succeeds}
 use Rattle.plan_search.specs.declared.Placed.{Placed}
 use Rattle.plan_search.specs.ListEntries.{unpacked}
 use Rattle.plan_search.specs.FateReading.{fateTo, fateIn}
@@ -68,7 +68,8 @@ visit-requires c κs =
       tables = b .pre .tables;
       ready = r;
       listed = b .pre .searching .listed;
-      pair-range = arrival-range _ _ _ r _ _ _ _ _ (b .pre .searching) (b .pre .high) _ (told (f .before .before) _ (f .fate2 .given .1));
+      pair-range =
+        arrival-range _ _ _ r _ _ _ _ _ (b .pre .searching) (b .pre .high) _ (told (f .before .before) _ (f .fate2 .given .1));
       parent-range = omega (arith, tried-below _ _ _ r _ _ _ _ _ (b .pre .searching), pairs-few _ _ _ r);
       kind-range = omega (arith, b .pre .high, r .well-formed .kinds-range .1)
     }

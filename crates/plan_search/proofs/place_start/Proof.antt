@@ -1,12 +1,11 @@
 -- A world state that is not marked is left out; the pair of a marked one is visited.
 use borrow.Author.Needs.{needs}
-use mathlib.Core.Path.{_≡_, refl, sym, ap₂, _∙_}
+use mathlib.Core.Path.{_≡_, sym, ap₂, _∙_}
 use native.Mathlib.Omega.{arith}
-use Prim.Native.Nat.{ℕ, _+_}
+use Prim.Native.Nat.{_+_}
 use Rattle.lamp_line.proofs.Products.{product-le}
 use Rattle.job_layout.specs.JobTables.{tablesOf}
 use Rattle.check_laws.specs.Fates.{startNode}
-use Rattle.plan_search.proofs.FateReads.{worlds-high}
 use Rattle.plan_search.proofs.StartTurns.{start-node-is, start-skipped, start-range, start-came}
 use Rattle.plan_search.proofs.place_start.Statement.{statement}
 use Rattle.plan_search.proofs.place_start.Tie as tie
@@ -48,7 +47,8 @@ visit-requires c κs =
       tables = tablesOf (b .args .file .now);
       ready = b .pre .1;
       listed = b .pre .2 .listed;
-      pair-range = start-range _ _ _ (b .pre .1) _ _ _ _ (b .pre .2) _ (number-is w) (sym (e .before .is-start .ensures) ∙ e .if1 .taken);
+      pair-range =
+        start-range _ _ _ (b .pre .1) _ _ _ _ (b .pre .2) _ (number-is w) (sym (e .before .is-start .ensures) ∙ e .if1 .taken);
       parent-range = omega arith;
       kind-range = omega arith
     }

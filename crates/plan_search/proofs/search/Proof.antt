@@ -1,6 +1,6 @@
 -- The ways in which the search of pairs ends; the line of a failure at a lamp is counted and written.
 use borrow.Author.Needs.{needs}
-use mathlib.Core.Path.{refl, sym, _∙_}
+use mathlib.Core.Path.{refl, sym}
 use native.Mathlib.Omega.{arith}
 use Rattle.job_layout.specs.JobTables.{tablesOf}
 use Rattle.job_tables.proofs.Ranges.{well-formed}
@@ -25,7 +25,9 @@ enum-known-halted-3 c = search needs
 -- The line that fails at a lamp.
 fails-at :
   (c : tie.After-known-told3) →
-  LampFails (tablesOf (c .before .before .before .before .before .before .before .before .before .before .before .before .before .before .before .args .file .now)) (c .before .before .before .before .before .before .before .search-pairs .last .1 .1 .1 .0)
+  LampFails (tablesOf (c .before .before .before .before .before .before .before .before .before .before
+  .before .before .before .before .before .args .file .now))
+  (c .before .before .before .before .before .before .before .search-pairs .last .1 .1 .1 .0)
   (c .before .halted3 .given .0 .1 .0) (c .before .halted3 .given .0 .1 .1 .0) (c .before .halted3 .given .0 .1 .1 .1 .0)
   (c .before .halted3 .given .0 .0)
 fails-at c =
@@ -54,7 +56,8 @@ write-line-requires : tie.Need-write-line-requires
 write-line-requires c κs =
     let k = c .before .before .before .before in
     let f = fails-at k in
-    let b = k .before .before .before .before .before .before .before .before .before .before .before .before .before .before .before in
+    let p = k .before .before .before .before .before .before .before in
+    let b = p .before .before .before .before .before .before .before .before in
     (f .chained, in-taken _ _ _ _ _ _ f, omega (arith, taken-size _ _ _ _ _ _ f, f .few),
     line-fits _ _ (b .pre .0 .opened) _ _ _ _ _ f _ _ (c .before .before .lamps-before .ensures) (b .pre .1),
     c .before .before .lamps-before .ensures, start-small _ _ _ _ _ _ f (well-formed _ _ (b .pre .0 .opened)))
@@ -62,14 +65,18 @@ write-line-requires c κs =
 cast-t28 : tie.Need-cast-t28
 cast-t28 c =
     let k = c .before .before .before .before .before .before .before in
+    let p = k .before .before .before .before .before .before .before in
+    let b = p .before .before .before .before .before .before .before .before in
     omega (arith, c .before .before .before .before .before .lamps-before .ensures,
-    lamps-few _ _ _ _ _ _ (fails-at k) (well-formed _ _ (k .before .before .before .before .before .before .before .before .before .before .before .before .before .before .before .pre .0 .opened)))
+    lamps-few _ _ _ _ _ _ (fails-at k) (well-formed _ _ (b .pre .0 .opened)))
 
 add-t29 : tie.Need-add-t29
 add-t29 c =
     let k = c .before .before .before .before .before .before .before in
+    let p = k .before .before .before .before .before .before .before in
+    let b = p .before .before .before .before .before .before .before .before in
     omega (arith, c .before .before .before .before .before .lamps-before .ensures,
-    lamps-few _ _ _ _ _ _ (fails-at k) (well-formed _ _ (k .before .before .before .before .before .before .before .before .before .before .before .before .before .before .before .pre .0 .opened)))
+    lamps-few _ _ _ _ _ _ (fails-at k) (well-formed _ _ (b .pre .0 .opened)))
 
 same-length : tie.Need-same-length
 same-length c = search needs
@@ -111,7 +118,8 @@ returns-3 c =
     let m = w .before .before .before in
     let k = m .before .before in
     let f = fails-at k in
-    let b = k .before .before .before .before .before .before .before .before .before .before .before .before .before .before .before in
+    let p = k .before .before .before .before .before .before .before in
+    let b = p .before .before .before .before .before .before .before .before in
     names-line _ _ _ _ _ _ f _ _ (w .write-line .result) (w .write-line .last .1 .0) (m .lamps-before .ensures)
     (line-fits _ _ (b .pre .0 .opened) _ _ _ _ _ f _ _ (m .lamps-before .ensures) (b .pre .1)) (w .write-line .kept .1 .0)
     (w .write-line .ensures)

@@ -3,7 +3,6 @@ use borrow.Author.Needs.{needs}
 use mathlib.Core.Path.{refl, ap, _∙_}
 use native.Mathlib.Omega.{arith}
 use Prim.Native.Nat.{_+_, _-_}
-use Rattle.lamp_line.proofs.Products.{product-le}
 use Rattle.job_layout.specs.JobTables.{tablesOf}
 use Rattle.pair_bits.specs.Bits.{countTo}
 use Rattle.plan_search.proofs.ListLaws.{pairs-few}
@@ -44,7 +43,7 @@ mul-pairs c =
 clear-bits-requires : tie.Need-clear-bits-requires Inv-loop μ-loop Inv-search μ-search
 clear-bits-requires c κs =
     let b = c .before .before .before .before .before .before .before in
-    (b .pre .bits-room, job-pairs-few _ _ _ _ _ (b .pre))
+    (omega (arith, b .pre .bits-room), omega (arith, job-pairs-few _ _ _ _ _ (b .pre)))
 
 place-starts-requires : tie.Need-place-starts-requires Inv-loop μ-loop Inv-search μ-search
 place-starts-requires c κs =
@@ -60,7 +59,9 @@ same-length : tie.Need-same-length Inv-loop μ-loop Inv-search μ-search
 same-length c = let p = c .before .before .before .before .before .before .before in p .place-starts .kept .1 .1 .1 .0
 
 same-length-2 : tie.Need-same-length-2 Inv-loop μ-loop Inv-search μ-search
-same-length-2 c = let p = c .before .before .before .before .before .before .before in p .place-starts .kept .1 .1 .1 .1 .0 ∙ p .before .before .before .before .before .clear-bits .kept .0
+same-length-2 c =
+    let p = c .before .before .before .before .before .before .before in
+    p .place-starts .kept .1 .1 .1 .1 .0 ∙ p .before .before .before .before .before .clear-bits .kept .0
 
 returns : tie.Need-returns Inv-loop μ-loop Inv-search μ-search
 returns c =
@@ -85,7 +86,8 @@ one-turn-requires : tie.Need-one-turn-requires Inv-loop μ-loop Inv-search μ-se
 one-turn-requires c κs =
     let e = c .before .before in
     let l = e .before .before in
-    let b = l .before .before .before .before .before .before .before .before .before .before .before .before .before .before .before .before .before .before .before .before .before .before in
+    let p = l .before .before .before .before .before .before .before .before .before in
+    let b = p .before .before .before .before .before .before .before .before .before .before .before .before .before in
     record {
       tables = tablesOf (b .args .file .now);
       ready = ready-for _ _ _ _ _ (b .pre);
@@ -102,18 +104,22 @@ enum-known-turn-2 c = search needs
 add-kind : tie.Need-add-kind Inv-loop μ-loop Inv-search μ-search
 add-kind c =
     let e = c .before .before .before .before .before .before .before .before .before .before in
-    let b = e .before .before .before .before .before .before .before .before .before .before .before .before .before .before .before .before .before .before .before .before .before .before .before .before in
+    let p = e .before .before .before .before .before .before .before .before .before .before .before in
+    let b = p .before .before .before .before .before .before .before .before .before .before .before .before .before in
     omega (arith, e .if1 .taken, job-kinds _ _ _ _ _ (b .pre), ready-for _ _ _ _ _ (b .pre) .well-formed .kinds-range .1)
 
 loop-less : tie.Need-loop-less Inv-loop μ-loop Inv-search μ-search
-loop-less c = let e = c .before .before .before .before .before .before .before .before .before .before in omega (arith, e .if1 .taken)
+loop-less c =
+    let e = c .before .before .before .before .before .before .before .before .before .before in
+    omega (arith, e .if1 .taken)
 
 loop-again : tie.Need-loop-again Inv-loop μ-loop Inv-search μ-search
 loop-again c =
     let o = c .before .before .before .before .before .before .before in
     let e = o .before .before .before in
     let l = e .before .before in
-    let b = l .before .before .before .before .before .before .before .before .before .before .before .before .before .before .before .before .before .before .before .before .before .before in
+    let p = l .before .before .before .before .before .before .before .before .before in
+    let b = p .before .before .before .before .before .before .before .before .before .before .before .before .before in
     record {
       searching =
         lamp-held _ _ _ (ready-for _ _ _ _ _ (b .pre)) _ _ _ _ _ (l .loop .inv .searching) (o .one-turn .result)
@@ -128,27 +134,31 @@ loop-again c =
 add-from : tie.Need-add-from Inv-loop μ-loop Inv-search μ-search
 add-from c =
     let l = c .before .before in
-    let b = l .before .before .before .before .before .before .before .before .before .before .before .before .before .before .before .before .before .before .before .before .before .before in
+    let p = l .before .before .before .before .before .before .before .before .before in
+    let b = p .before .before .before .before .before .before .before .before .before .before .before .before .before in
     let ready = ready-for _ _ _ _ _ (b .pre) in
     omega (arith, tried-below _ _ _ ready _ _ _ _ _ (l .loop .inv .searching), pairs-few _ _ _ ready)
 
 count-bits-requires : tie.Need-count-bits-requires Inv-loop μ-loop Inv-search μ-search
 count-bits-requires c κs =
     let l = c .before .before .before .before in
-    let b = l .before .before .before .before .before .before .before .before .before .before .before .before .before .before .before .before .before .before .before .before .before .before in
+    let p = l .before .before .before .before .before .before .before .before .before in
+    let b = p .before .before .before .before .before .before .before .before .before .before .before .before .before in
     (omega (arith, pairs-are _ _ _ _ _ (b .pre), l .loop .inv .searching .listed .bits-room), job-pairs-few _ _ _ _ _ (b .pre))
 
 search-less : tie.Need-search-less Inv-loop μ-loop Inv-search μ-search
 search-less c =
     let l = c .before .before .before in
-    let b = l .before .before .before .before .before .before .before .before .before .before .before .before .before .before .before .before .before .before .before .before .before .before in
+    let p = l .before .before .before .before .before .before .before .before .before in
+    let b = p .before .before .before .before .before .before .before .before .before .before .before .before .before in
     let ready = ready-for _ _ _ _ _ (b .pre) in
     omega (arith, tried-below _ _ _ ready _ _ _ _ _ (l .loop .inv .searching), pairs-few _ _ _ ready)
 
 search-again : tie.Need-search-again Inv-loop μ-loop Inv-search μ-search
 search-again c =
     let l = c .before .before .before in
-    let b = l .before .before .before .before .before .before .before .before .before .before .before .before .before .before .before .before .before .before .before .before .before .before in
+    let p = l .before .before .before .before .before .before .before .before .before in
+    let b = p .before .before .before .before .before .before .before .before .before .before .before .before .before in
     record {
       searching =
         next-pair _ _ _ (ready-for _ _ _ _ _ (b .pre)) _ _ _ _ (l .loop .kind) (l .loop .inv .searching)
@@ -169,15 +179,17 @@ same-length-4 : tie.Need-same-length-4 Inv-loop μ-loop Inv-search μ-search
 same-length-4 c =
     let o = c .before .before .before .before .before .before .before in
     let l = o .before .before .before .before .before in
+    let p = l .before .before .before .before .before .before .before .before .before in
     o .one-turn .kept .1 .1 .1 .0 ∙ l .loop .inv .words-length ∙ l .before .search .inv .words-length
-    ∙ l .before .before .before .before .before .before .before .before .before .place-starts .kept .1 .1 .1 .1 .0 ∙ l .before .before .before .before .before .before .before .before .before .before .before .before .before .before .clear-bits .kept .0
+    ∙ p .place-starts .kept .1 .1 .1 .1 .0 ∙ p .before .before .before .before .before .clear-bits .kept .0
 
 returns-2 : tie.Need-returns-2 Inv-loop μ-loop Inv-search μ-search
 returns-2 c =
     let o = c .before .before .before .before .before .before .before in
     let e = o .before .before .before in
     let l = e .before .before in
-    let b = l .before .before .before .before .before .before .before .before .before .before .before .before .before .before .before .before .before .before .before .before .before .before in
+    let p = l .before .before .before .before .before .before .before .before .before in
+    let b = p .before .before .before .before .before .before .before .before .before .before .before .before .before in
     lamp-failed _ _ _ (ready-for _ _ _ _ _ (b .pre)) _ _ _ _ _ (l .loop .inv .searching) (o .one-turn .result)
     (o .one-turn .last .1 .1 .0) (o .one-turn .last .1 .1 .1 .0)
     (o .one-turn .ensures _ (ready-for _ _ _ _ _ (b .pre)) (l .loop .inv .searching)
@@ -186,19 +198,22 @@ returns-2 c =
 same-length-5 : tie.Need-same-length-5 Inv-loop μ-loop Inv-search μ-search
 same-length-5 c =
     let l = c .before .before .before .before .before in
-    l .loop .inv .list-length ∙ l .before .search .inv .list-length ∙ l .before .before .before .before .before .before .before .before .before .place-starts .kept .1 .1 .1 .0
+    l .loop .inv .list-length ∙ l .before .search .inv .list-length
+    ∙ l .before .before .before .before .before .before .before .before .before .place-starts .kept .1 .1 .1 .0
 
 same-length-6 : tie.Need-same-length-6 Inv-loop μ-loop Inv-search μ-search
 same-length-6 c =
     let l = c .before .before .before .before .before in
+    let p = l .before .before .before .before .before .before .before .before .before in
     l .loop .inv .words-length ∙ l .before .search .inv .words-length
-    ∙ l .before .before .before .before .before .before .before .before .before .place-starts .kept .1 .1 .1 .1 .0 ∙ l .before .before .before .before .before .before .before .before .before .before .before .before .before .before .clear-bits .kept .0
+    ∙ p .place-starts .kept .1 .1 .1 .1 .0 ∙ p .before .before .before .before .before .clear-bits .kept .0
 
 returns-3 : tie.Need-returns-3 Inv-loop μ-loop Inv-search μ-search
 returns-3 c =
     let e = c .before .before .before in
     let l = e .before .before in
-    let b = l .before .before .before .before .before .before .before .before .before .before .before .before .before .before .before .before .before .before .before .before .before .before in
+    let p = l .before .before .before .before .before .before .before .before .before in
+    let b = p .before .before .before .before .before .before .before .before .before .before .before .before .before in
     all-tried _ _ _ (ready-for _ _ _ _ _ (b .pre)) _ _ _ _ (l .loop .kind) (l .loop .inv .searching)
     (omega (arith, e .if1 .left, l .loop .inv .high, job-kinds _ _ _ _ _ (b .pre))) (c .before .before .if2 .taken) _
     (c .count-bits .ensures ∙ ap (countTo (l .loop .words)) (pairs-are _ _ _ _ _ (b .pre)))

@@ -3,7 +3,7 @@ use borrow.Author.Needs.{needs}
 use denote.Enum.Declared.{tagOf}
 use mathlib.Core.Path.{_≡_, refl, sym, ap, _∙_}
 use mathlib.Core.Logic.{_≢_, inl, inr}
-use mathlib.Core.List.{List, [], _∷_}
+use mathlib.Core.List.{[], _∷_}
 use native.Mathlib.Omega.{arith}
 use Prim.Native.Nat.{ℕ, _<_}
 use lib.ListN.{set}
@@ -58,22 +58,30 @@ pack-requires c κs =
     (omega (arith, b .pre .pair-range, pairs-few _ _ _ (b .pre .ready)), b .pre .parent-range, omega (arith, b .pre .kind-range))
 
 -- There is room for the pair.
-room : (c : tie.After-pack) → c .before .before .before .before .before .before .before .before .before .before .before .before .before .args .count
+room :
+  (c : tie.After-pack) →
+  c .before .before .before .before .before .before .before .before .before .before .before .before .before .args .count
   < pairs (c .before .before .before .before .before .before .before .before .before .before .before .before .before .pre .tables)
 room c =
     let e = c .before .before .before .before .before .before .before in
     let b = e .before .before .before .before .before .before in
-    room-left (b .pre .tables) (b .args .list .now) (b .args .words .now) (b .args .count) (b .pre .listed) (b .args .placed .pair)
-    (b .pre .pair-range) (sym (e .before .is-set .ensures) ∙ e .if1 .left)
+    room-left (b .pre .tables) (b .args .list .now) (b .args .words .now) (b .args .count) (b .pre .listed)
+    (b .args .placed .pair) (b .pre .pair-range) (sym (e .before .is-set .ensures) ∙ e .if1 .left)
 
 mul-list : tie.Need-mul-list
-mul-list c = let b = c .before .before .before .before .before .before .before .before .before .before .before .before .before in omega (arith, room c, pairs-few _ _ _ (b .pre .ready))
+mul-list c =
+    let b = c .before .before .before .before .before .before .before .before .before .before .before .before .before in
+    omega (arith, room c, pairs-few _ _ _ (b .pre .ready))
 
 slice-write-list : tie.Need-slice-write-list
-slice-write-list c = let b = c .before .before .before .before .before .before .before .before .before .before .before .before .before in omega (arith, room c, b .pre .listed .list-room)
+slice-write-list c =
+    let b = c .before .before .before .before .before .before .before .before .before .before .before .before .before in
+    omega (arith, room c, b .pre .listed .list-room)
 
 add-t16 : tie.Need-add-t16
-add-t16 c = let b = c .before .before .before .before .before .before .before .before .before .before .before .before .before in omega (arith, room c, pairs-few _ _ _ (b .pre .ready))
+add-t16 c =
+    let b = c .before .before .before .before .before .before .before .before .before .before .before .before .before in
+    omega (arith, room c, pairs-few _ _ _ (b .pre .ready))
 
 same-length-2 : tie.Need-same-length-2
 same-length-2 c = search needs

@@ -24,7 +24,8 @@ returns-4 : tie.Need-returns-4
 unfolding fateFrom
 returns-4 c =
     let b = c .before .before in
-    simp (ne-eqb _ _ (b .before .if1 .left), ne-eqb _ _ (b .if2 .left), ne-eqb _ _ (c .before .if3 .left), eq-eqb _ _ (c .if4 .taken))
+    simp (ne-eqb _ _ (b .before .if1 .left), ne-eqb _ _ (b .if2 .left), ne-eqb _ _ (c .before .if3 .left),
+    eq-eqb _ _ (c .if4 .taken))
 
 returns-5 : tie.Need-returns-5
 unfolding fateFrom

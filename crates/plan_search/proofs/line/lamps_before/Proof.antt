@@ -28,7 +28,8 @@ returns c =
     let u = c .before .before in
     let l = u .before .before in
     let b = l .before .before in
-    counted (b .args .list .now) (b .pre .0) (l .loop .place) (u .unpack .result) (u .unpack .ensures) _ _ (l .loop .inv) (c .if1 .taken)
+    counted (b .args .list .now) (b .pre .0) (l .loop .place) (u .unpack .result) (u .unpack .ensures) _ _ (l .loop .inv)
+    (c .if1 .taken)
 
 add-lamps : tie.Need-add-lamps Inv-loop μ-loop
 add-lamps c =
@@ -40,14 +41,16 @@ loop-less c =
     let u = c .before .before in
     let l = u .before .before in
     let b = l .before .before in
-    counts-on (b .args .list .now) (b .pre .0) (l .loop .place) (u .unpack .result) (u .unpack .ensures) _ _ (l .loop .inv) (c .if1 .left) .0
+    counts-on (b .args .list .now) (b .pre .0) (l .loop .place) (u .unpack .result) (u .unpack .ensures) _ _ (l .loop .inv)
+    (c .if1 .left) .0
 
 loop-again : tie.Need-loop-again Inv-loop μ-loop
 loop-again c =
     let u = c .before .before in
     let l = u .before .before in
     let b = l .before .before in
-    counts-on (b .args .list .now) (b .pre .0) (l .loop .place) (u .unpack .result) (u .unpack .ensures) _ _ (l .loop .inv) (c .if1 .left) .1
+    counts-on (b .args .list .now) (b .pre .0) (l .loop .place) (u .unpack .result) (u .unpack .ensures) _ _ (l .loop .inv)
+    (c .if1 .left) .1
 
 pub lamps-before-spec : {M : Type 1} → statement M
 lamps-before-spec =

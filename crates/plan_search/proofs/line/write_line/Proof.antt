@@ -37,7 +37,8 @@ cast-t15 c =
     let b = l .before .before .before in
     omega (arith, b .pre .5,
     written-all (b .args .list .now) (b .pre .0) (l .loop .place) (u .unpack .result) (u .unpack .ensures) (b .args .line .now)
-    (b .args .from) (b .args .kind) (b .args .lamps) (l .loop .line) (l .loop .at) (l .loop .lamp) (l .loop .inv) (c .before .if1 .taken) .0)
+    (b .args .from) (b .args .kind) (b .args .lamps) (l .loop .line) (l .loop .at) (l .loop .lamp) (l .loop .inv)
+    (c .before .if1 .taken) .0)
 
 same-length : tie.Need-same-length Inv-loop μ-loop
 same-length c =

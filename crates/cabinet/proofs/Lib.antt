@@ -1,0 +1,3 @@
+pub mod CabinetRules
+pub mod CabinetSteps
+pub mod SameAnswers

@@ -1,0 +1,91 @@
+// The cabinet (document 01, "The cabinet"). `begin`, `next_action` and `report` are the operations; they ask nothing of their
+// caller and read marks and plan only.
+ghost use mathlib.Core.Path.{_≡_};
+ghost use Rattle.cabinet.specs.CabinetAnswers.{beginAnswer, actionAnswer, reportAnswer};
+use job_file::read_job;
+use job_file::refusal_number;
+use job_file::Reading;
+use job_tables::moves_on;
+use job_tables::plan_action;
+use job_tables::plan_target;
+use job_tables::Target;
+use lamp_line::Cabinet;
+
+// What the beginning answers: the cabinet's machine in its first state.
+pub enum BeginAnswer {
+    Begun(Cabinet),
+    Refused(u8),
+}
+
+// What a call for the action answers.
+pub enum ActionAnswer {
+    Action(u8),
+    Ended,
+    Refused(u8),
+}
+
+// What a report answers: the new state, or the number of a refusal and the old state.
+pub enum ReportAnswer {
+    Taken(Cabinet),
+    Refused(u8, Cabinet),
+}
+
+// The first state with the panel's count of lamps, for any file and count.
+pub fn begin(file: &[u8], count: u16) -> BeginAnswer
+    ensures { λ r. ⌜ r ≡ beginAnswer (now (file .entry)) count ⌝ }
+{
+    let reading = read_job(file);
+    let Reading::Job(job) = reading else {
+        return BeginAnswer::Refused(refusal_number(reading));
+    };
+    let first = job.first;
+    BeginAnswer::Begun(Cabinet { state: first, lamps: count })
+}
+
+// The action to be done in a state, or Ended in state S, for any file and state.
+pub fn next_action(file: &[u8], state: Cabinet) -> ActionAnswer
+    ensures { λ r. ⌜ r ≡ actionAnswer (now (file .entry)) state ⌝ }
+{
+    let reading = read_job(file);
+    let Reading::Job(job) = reading else {
+        return ActionAnswer::Refused(refusal_number(reading));
+    };
+    if job.states < state.state.0 {
+        return ActionAnswer::Refused(16);
+    }
+    if state.state.0 == job.states {
+        return ActionAnswer::Ended;
+    }
+    ActionAnswer::Action(plan_action(file, job, state.state))
+}
+
+// The state after a sensed result is reported, for any file, state and result.
+pub fn report(file: &[u8], state: Cabinet, result: u8) -> ReportAnswer
+    ensures { λ r. ⌜ r ≡ reportAnswer (now (file .entry)) state result ⌝ }
+{
+    let reading = read_job(file);
+    let Reading::Job(job) = reading else {
+        return ReportAnswer::Refused(refusal_number(reading), state);
+    };
+    if job.states < state.state.0 {
+        return ReportAnswer::Refused(16, state);
+    }
+    if state.state.0 == job.states {
+        return ReportAnswer::Refused(17, state);
+    }
+    if job.results <= result {
+        return ReportAnswer::Refused(18, state);
+    }
+    let target = plan_target(file, job, state.state, result);
+    let Target::To(to) = target else {
+        return ReportAnswer::Refused(18, state);
+    };
+    let action = plan_action(file, job, state.state);
+    if !moves_on(file, job, action) {
+        return ReportAnswer::Taken(Cabinet { state: to, lamps: state.lamps });
+    }
+    if state.lamps == 0 {
+        return ReportAnswer::Refused(19, state);
+    }
+    ReportAnswer::Taken(Cabinet { state: to, lamps: state.lamps - 1 })
+}

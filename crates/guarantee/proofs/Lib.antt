@@ -1,0 +1,2 @@
+pub mod CallsFollow
+pub mod DemandThree
