@@ -25,7 +25,7 @@ place-start-requires c κs =
     let e = c .before .before in
     let l = e .before .before in
     let b = l .before .before .before .before .before in
-    (b .pre .0, b .pre .1, l .loop .inv .starting, e .if1 .taken)
+    (b .pre .0, b .pre .1, l .loop .inv .starting, omega (arith, e .if1 .taken))
 
 enum-known-turn : tie.Need-enum-known-turn Inv-loop μ-loop
 enum-known-turn c = search needs
