@@ -1,15 +1,21 @@
 // The cabinet (document 01, "The cabinet"). `begin`, `next_action` and `report` are the operations; they ask nothing of their
 // caller and read marks and plan only.
 ghost use mathlib.Core.Path.{_≡_};
+ghost use Prim.Native.Nat.{_<_};
+ghost use Rattle.job_layout.specs.JobTables.{tablesOf};
+ghost use Rattle.job_file.specs.Reading.{Opened};
+ghost use Rattle.job_tables.specs.Entries.{targetOf};
 ghost use Rattle.cabinet.specs.CabinetAnswers.{beginAnswer, actionAnswer, reportAnswer};
 use job_file::read_job;
 use job_file::refusal_number;
 use job_file::Reading;
+use job_layout::Job;
 use job_tables::moves_on;
 use job_tables::plan_action;
 use job_tables::plan_target;
 use job_tables::Target;
 use lamp_line::Cabinet;
+use lamp_line::ProgramState;
 
 // What the beginning answers: the cabinet's machine in its first state.
 pub enum BeginAnswer {
@@ -59,6 +65,17 @@ pub fn next_action(file: &[u8], state: Cabinet) -> ActionAnswer
     ActionAnswer::Action(plan_action(file, job, state.state))
 }
 
+// The branch of a state below S for any result. A result that is not below R has none.
+fn branch(file: &[u8], job: Job, state: ProgramState, result: u8) -> Target
+    requires { ⌜ Opened (now file) job × (state .0 < job .states) ⌝ }
+    ensures { λ r. ⌜ targetOf r ≡ tablesOf (now (file .entry)) .target state result ⌝ }
+{
+    if job.results <= result {
+        return Target::NoBranch;
+    }
+    plan_target(file, job, state, result)
+}
+
 // The state after a sensed result is reported, for any file, state and result.
 pub fn report(file: &[u8], state: Cabinet, result: u8) -> ReportAnswer
     ensures { λ r. ⌜ r ≡ reportAnswer (now (file .entry)) state result ⌝ }
@@ -67,25 +84,25 @@ pub fn report(file: &[u8], state: Cabinet, result: u8) -> ReportAnswer
     let Reading::Job(job) = reading else {
         return ReportAnswer::Refused(refusal_number(reading), state);
     };
-    if job.states < state.state.0 {
+    let from = state.state;
+    let lamps = state.lamps;
+    if job.states < from.0 {
         return ReportAnswer::Refused(16, state);
     }
-    if state.state.0 == job.states {
+    if from.0 == job.states {
         return ReportAnswer::Refused(17, state);
     }
-    if job.results <= result {
-        return ReportAnswer::Refused(18, state);
-    }
-    let target = plan_target(file, job, state.state, result);
+    let target = branch(file, job, from, result);
     let Target::To(to) = target else {
         return ReportAnswer::Refused(18, state);
     };
-    let action = plan_action(file, job, state.state);
+    let action = plan_action(file, job, from);
     if !moves_on(file, job, action) {
-        return ReportAnswer::Taken(Cabinet { state: to, lamps: state.lamps });
+        return ReportAnswer::Taken(Cabinet { state: to, lamps: lamps });
     }
-    if state.lamps == 0 {
+    if lamps == 0 {
         return ReportAnswer::Refused(19, state);
     }
-    ReportAnswer::Taken(Cabinet { state: to, lamps: state.lamps - 1 })
+    let left = lamps - 1;
+    ReportAnswer::Taken(Cabinet { state: to, lamps: left })
 }

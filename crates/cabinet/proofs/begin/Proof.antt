@@ -22,11 +22,10 @@ refusal-number-requires c κs = search needs
 
 returns : tie.Need-returns
 returns c =
-    let told = c .before .enum-told .given .1 in
     let r = c .before .before .before in
     let a = r .before .before .args in
     begin-file-refused (a .file .now) (c .refusal-number .result)
-    (reading-refused (a .file .now) _ _ _ (r .read-job .ensures) told (c .refusal-number .ensures))
+    (reading-refused (a .file .now) _ _ _ (r .read-job .ensures) (c .before .enum-told .given .1) (c .refusal-number .ensures))
     (a .count)
 
 returns-2 : tie.Need-returns-2
