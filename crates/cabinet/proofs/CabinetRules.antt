@@ -1,5 +1,5 @@
--- The cabinet's answers by the rules on the file and by the machine: a refused file is refused with its number, with a file that is
--- not refused the machine decides, and action and report obey their whole lists of rules in order.
+-- The cabinet's answers by the rules on the file and by the machine: a refused file is refused with its number, with a file
+-- that is not refused the machine decides, and action and report obey their whole lists of rules in order.
 use mathlib.Core.Path.{_≡_, refl, sym, ap, _∙_}
 use mathlib.Core.Bool.{Bool, true, false, cond}
 use mathlib.Core.Option.{Option, none, some}
@@ -83,7 +83,8 @@ action-of false a = refl
 
 asked-by-rules : (t : Tables) (m : Cabinet) →
   actionOf (reply t m ask)
-  ≡ answerBy action.Refused (askRules t m) (cond (eqb (m .state .0) (t .states)) action.Ended (action.Action (t .action (m .state))))
+  ≡ answerBy action.Refused (askRules t m)
+    (cond (eqb (m .state .0) (t .states)) action.Ended (action.Action (t .action (m .state))))
 unfolding reply answerBy
 asked-by-rules t m =
     made-of t actionOf (refusal (askRules t m)) m _
@@ -95,8 +96,8 @@ reported-by-rules : (t : Tables) (m : Cabinet) (r : Result) →
 unfolding reply answerBy
 reported-by-rules t m r = made-of t (reportOf m) (refusal (reportRules t m r)) m (taken (fed t m (t .target (m .state) r)))
 
--- A call for the action answers the first of refusals 1 to 11 and 16 that applies, or else Ended in state S and the state's action
--- in any other.
+-- A call for the action answers the first of refusals 1 to 11 and 16 that applies, or else Ended in state S and the state's
+-- action in any other.
 pub action-by-rules : (s : List ℕ) (m : Cabinet) →
   actionAnswer s m
   ≡ answerBy action.Refused (actionRules s m)

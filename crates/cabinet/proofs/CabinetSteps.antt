@@ -30,8 +30,7 @@ no-branch-outside s j opened q r h = by (tablesOf s .target q r) refl
   where
     by : (o : Option ProgramState) → tablesOf s .target q r ≡ o → none ≡ o
     by none e = refl
-    by (some q′) e =
-        absurd (omega (arith, h, results-are s j opened, well-formed s j opened .target-range q q′ r e .0))
+    by (some q′) e = absurd (omega (arith, h, results-are s j opened, well-formed s j opened .target-range q q′ r e .0))
 
 module _ (s : List ℕ) (j : Job) (opened : Opened s j) (m : Cabinet) where
   above-tables : j .states < m .state .0 → tablesOf s .states < m .state .0
@@ -52,7 +51,8 @@ module _ (s : List ℕ) (j : Job) (opened : Opened s j) (m : Cabinet) where
   action-ended e = replied-ask _ (asked-ended (tablesOf s) m (e ∙ states-are s j opened))
 
   -- The action in a state below S.
-  pub action-acts : m .state .0 < j .states → (a : Action) → a ≡ tablesOf s .action (m .state) → action.Action a ≡ actionAnswer s m
+  pub action-acts :
+    m .state .0 < j .states → (a : Action) → a ≡ tablesOf s .action (m .state) → action.Action a ≡ actionAnswer s m
   action-acts h a e = ap action.Action e ∙ replied-ask _ (asked-acts (tablesOf s) m (below-tables h))
 
   module _ (r : Result) where
@@ -82,11 +82,11 @@ module _ (s : List ℕ) (j : Job) (opened : Opened s j) (m : Cabinet) where
         in-range = well-formed s j opened .target-range (m .state) q r (sym branch) .0
 
         -- The action does not move on.
-        pub report-stays : movesOn (tablesOf s) a ≡ false → report.Taken (record { state = q; lamps = m .lamps }) ≡ reportAnswer s m r
+        pub report-stays :
+          movesOn (tablesOf s) a ≡ false → report.Taken (record { state = q; lamps = m .lamps }) ≡ reportAnswer s m r
         report-stays stays =
             replied-report _
-            (stays-taken (tablesOf s) m r (below-tables below) in-range (sym branch)
-            (eqb-false _ _ (rw (sym acts) stays)))
+            (stays-taken (tablesOf s) m r (below-tables below) in-range (sym branch) (eqb-false _ _ (rw (sym acts) stays)))
 
         moving : movesOn (tablesOf s) a ≡ true → tablesOf s .mark (tablesOf s .action (m .state)) ≡ 1
         moving moves = eqb-true _ _ (rw (sym acts) moves)

@@ -1,5 +1,5 @@
--- The cabinet "reads marks and plan only: two files that aren't refused and are equal in these, in A, R, S and the first state give
--- equal cabinet answers" (document 01, "The cabinet").
+-- The cabinet "reads marks and plan only: two files that aren't refused and are equal in these, in A, R, S and the first state
+-- give equal cabinet answers" (document 01, "The cabinet").
 use mathlib.Core.Path.{_≡_, sym, ap, _∙_}
 use mathlib.Core.List.{List}
 use Prim.Native.Nat.{ℕ}

@@ -1,5 +1,5 @@
--- What the cabinet's operations answer (document 01, "The cabinet" and "Who can cause which number"): the first of refusals 1 to 11
--- that applies to the file, or else what the cabinet's machine replies.
+-- What the cabinet's operations answer (document 01, "The cabinet" and "Who can cause which number"): the first of refusals 1
+-- to 11 that applies to the file, or else what the cabinet's machine replies.
 use mathlib.Core.List.{List}
 use Prim.Native.Nat.{ℕ}
 use Rattle.plans.specs.Plan.{Result}
@@ -34,11 +34,14 @@ reportOf m (machine.refused number m′) = report.Refused number m′
 abbrev pub keeping : Cabinet → ℕ → ReportAnswer
 keeping m number = report.Refused number m
 
+-- The beginning: "the first state and the panel's count".
 unfoldable pub beginAnswer : List ℕ → ℕ → BeginAnswer
 beginAnswer s count = answerBy begun.Refused (beginRules s) (begun.Begun (machine.begin (tablesOf s) count))
 
+-- A call for the action in state m.
 unfoldable pub actionAnswer : List ℕ → Cabinet → ActionAnswer
 actionAnswer s m = answerBy action.Refused (fileRules s) (actionOf (machine.reply (tablesOf s) m machine.ask))
 
+-- A report of the result r in state m.
 unfoldable pub reportAnswer : List ℕ → Cabinet → Result → ReportAnswer
 reportAnswer s m r = answerBy (keeping m) (fileRules s) (reportOf m (machine.reply (tablesOf s) m (machine.report r)))

@@ -1,6 +1,6 @@
 -- The reader's refusal is handed on; with a file that is not refused the job's first state is the tables'.
 use borrow.Author.Needs.{needs}
-use mathlib.Core.Path.{_≡_, sym, ap, _∙_}
+use mathlib.Core.Path.{sym, ap, _∙_}
 use Rattle.lamp_line.specs.declared.ProgramState.{ProgramState}
 use Rattle.job_tables.proofs.Ranges.{first-is}
 use Rattle.cabinet.specs.declared.BeginAnswer.the-variants.{Begun}

@@ -1,6 +1,6 @@
 -- The reader's refusal is handed on; then each test is the next one of the machine.
 use borrow.Author.Needs.{needs}
-use mathlib.Core.Path.{_≡_, sym, _∙_}
+use mathlib.Core.Path.{sym, _∙_}
 use native.Mathlib.Omega.{arith}
 use Rattle.job_file.specs.Reading.{Opened}
 use Rattle.cabinet.proofs.CabinetRules.{reading-refused, action-file-refused}
