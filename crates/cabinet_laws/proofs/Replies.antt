@@ -5,7 +5,7 @@ use mathlib.Core.Bool.{false, or-true}
 use mathlib.Core.Option.{none, some}
 use Prim.Native.Nat.{_-_, _≤_, _<_}
 use native.Mathlib.Omega.{arith}
-use borrow.Author.Tests.{lt-ltb, le-ltb, le-leb, lt-leb, eq-eqb, ne-eqb}
+use borrow.Author.Tests.{lt-ltb, le-ltb, lt-leb, eq-eqb, ne-eqb}
 use lib.Dec.{eqb, leb, ltb}
 use Rattle.plans.specs.Plan.{Result}
 use Rattle.lamp_line.specs.declared.ProgramState.{ProgramState}
@@ -45,11 +45,6 @@ module _ (t : Tables) (m : Cabinet) where
 
     -- Reports in a state below S.
     module _ (below : m .state .0 < t .states) where
-      -- A result that is not below R is refused, with 18.
-      pub result-refused : t .results ≤ r → reply t m (report r) ≡ refused 18 m
-      unfolding reply refusal
-      result-refused h = rw (not-above (omega arith), not-ended below, le-leb (t .results) r h)
-
       -- A result without a branch is refused, with 18.
       pub branch-refused : t .target (m .state) r ≡ none → reply t m (report r) ≡ refused 18 m
       unfolding reply refusal

@@ -16,7 +16,7 @@ use Rattle.search_laws.proofs.Lex.{_▸_}
 use Rattle.search_laws.proofs.Graph.{Kind, reach-below}
 use Rattle.search_laws.proofs.Table.{Entry, entry, node, start, path}
 use Rattle.search_laws.proofs.Grown.{grown, onward}
-use Rattle.search_laws.proofs.Room.{entries-fit, room}
+use Rattle.search_laws.proofs.Room.{entries-fit}
 use Rattle.search_laws.proofs.Turns.{At, turn-quiet, fails-lamp, turn-add, fails-end}
 use Rattle.search_laws.proofs.Begin.{Begun, begin-skip, begin-add, begin-lowest, begin-done}
 use Rattle.check_laws.specs.Fates.{succeeds, fails, arrives, startNode, fate}
@@ -34,14 +34,6 @@ pub record BadAtEnd (t : Tables) (x e : ℕ) (kind : FailureKind) : Type 0 where
   pub is-end : e < endKinds t
   pub fate-is : fate t x e ≡ fails kind
   pub lowest : (e′ f : ℕ) → e′ < e → ¬ (FailsAt t x e′ f)
-
--- There is one kind of end, so a pair that succeeds there fails at no end.
-pub good-at-one-end : (t : Tables) (x : ℕ) → fate t x 0 ≡ succeeds → GoodAtEnds t x
-good-at-one-end t x h e f l (kind, g, n) =
-    let zero-end : e ≡ 0 = omega (arith, one-end-kind t) in
-    let g′ = rw zero-end at g in
-    let z : _≡_ {A = ℕ} 0 1 = cc in
-    omega arith
 
 -- And one that fails there fails there first.
 pub bad-at-one-end : (t : Tables) (x : ℕ) (kind : FailureKind) → fate t x 0 ≡ fails kind → BadAtEnd t x 0 kind
@@ -115,11 +107,6 @@ module _ (t : Tables) (wf : WellFormed t) where
       -- The run arrives with a pair that is not in the table.
       module _
         (y : ℕ) (e : fate t (node E h) (lampColumn t k) ≡ arrives y) (new : (i : ℕ) → i < length E → node E i ≢ y) where
-        -- There is room for it.
-        pub new-fits : length E < (t .states + 1) * t .worlds
-        new-fits =
-            room E ((t .states + 1) * t .worlds) y (at .inv .distinct) nodes-bound (to-bound t wf (node E h) k y e) new
-
         -- It fails at no end.
         pub new-good : GoodAtEnds t y → At (graph t) (grown E (onward E h k y)) h (k + 1)
         new-good good = turn-add (graph t) E h k at (plain t wf) kind y new e good

@@ -1,10 +1,8 @@
 -- What is read from the tables of a file that is not refused is in range, in terms of the job that the reader answered.
 use mathlib.Core.Path.{_≡_, refl, sym, ap, subst}
 use mathlib.Core.Logic.{inl}
-use mathlib.Core.Bool.{true}
-use mathlib.Core.Option.{some}
 use mathlib.Core.List.{List, [], _∷_}
-use Prim.Native.Nat.{ℕ, _≤_, _<_}
+use Prim.Native.Nat.{ℕ, _<_}
 use Rattle.plans.specs.Plan.{Action, Result}
 use Rattle.lamp_line.specs.declared.ProgramState.{ProgramState}
 use Rattle.lamp_line.specs.declared.WorldState.{WorldState}
@@ -48,16 +46,8 @@ module _ (s : List ℕ) (j : Job) (opened : Opened s j) where
       actions-are : j .actions ≡ tablesOf s .actions
       actions-are = ap (λ (h : Job). h .actions) (sound s j opened .is-head)
 
-  -- The next world state and the result of a cell.
+  -- The result of a cell.
   module _ (a : Action) (w w′ : WorldState) (c : ℕ) (r : Result) (legal : tablesOf s .cell a w c ≡ outcome w′ r ∷ []) where
-    pub next-below : w′ .0 < j .worlds
-    next-below =
-        rw worlds-are (well-formed .next-range a w w′ c r (first-in (outcome w′ r) (tablesOf s .cell a w c) [] legal))
-
     pub result-below : r < j .results
     result-below =
         rw results-are (well-formed .result-range a w w′ c r (first-in (outcome w′ r) (tablesOf s .cell a w c) [] legal))
-
-  -- A target of the plan.
-  pub target-within : (q q′ : ProgramState) (r : Result) → tablesOf s .target q r ≡ some q′ → q′ .0 ≤ j .states
-  target-within q q′ r e = rw states-are (well-formed .target-range q q′ r e .1)

@@ -1,12 +1,12 @@
 -- The table has room: its nodes are all different, so it has no more entries than there are nodes.
 use mathlib.Core.Logic.{_≢_, _⊎_, inl, inr}
-use mathlib.Core.List.{List, []}
+use mathlib.Core.List.{List}
 use Prim.Native.Nat.{ℕ, _≤_, _<_}
 use native.Mathlib.Omega.{arith}
 use lib.ListN.{length}
 use Rattle.plans.proofs.Pigeonhole.{pigeonhole}
-use Rattle.search_laws.proofs.Table.{Entry, entry, node}
-use Rattle.search_laws.proofs.Grown.{below-or-not, grown, grown-length, grown-all, grown-pairs}
+use Rattle.search_laws.proofs.Table.{Entry, node}
+use Rattle.search_laws.proofs.Grown.{below-or-not}
 
 -- At most as many entries as nodes.
 pub entries-fit :
@@ -19,14 +19,3 @@ entries-fit E N distinct below = go (below-or-not N (length E))
         let r = pigeonhole N (node E) (λ i l. below i (omega arith)) in
         absurd (distinct (r .earlier) (r .later) (r .in-order) (omega (arith, r .in-range)) (r .same))
     go (inr h) = h
-
--- A new node still fits.
-pub room :
-  (E : List Entry) (N y : ℕ) → ((i j : ℕ) → i < j → j < length E → node E i ≢ node E j) →
-  ((i : ℕ) → i < length E → node E i < N) → y < N → ((i : ℕ) → i < length E → node E i ≢ y) → length E < N
-room E N y distinct below y<N new =
-    let z = entry y 0 [] in
-    let fit : length (grown E z) ≤ N =
-          entries-fit (grown E z) N (grown-pairs E z (λ u v. u .node ≢ v .node) distinct new)
-          (grown-all E z (λ j v. v .node < N) below y<N) in
-    omega (arith, grown-length E z)
