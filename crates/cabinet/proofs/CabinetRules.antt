@@ -29,7 +29,7 @@ use Rattle.cabinet.specs.CabinetAnswers.{actionOf, reportOf, keeping, be
 
 -- The number that is taken out of the reader's refusal is the one that it refuses with.
 pub reading-refused : (s : List ℕ) (x : Reading) (n number : ℕ) →
-  x ≡ readingOf s → x ≡ reading.Refused n → number ≡ refusalOf x → readingOf s ≡ reading.Refused number
+    x ≡ readingOf s → x ≡ reading.Refused n → number ≡ refusalOf x → readingOf s ≡ reading.Refused number
 reading-refused s x n number read told taken-out = sym read ∙ told ∙ ap reading.Refused (sym (taken-out ∙ ap refusalOf told))
 
 module _ (s : List ℕ) (number : ℕ) (e : readingOf s ≡ reading.Refused number) where
@@ -73,7 +73,7 @@ module _ (s : List ℕ) (j : Job) (opened : Opened s j) where
 
 -- What is made of a reply is made of the machine's refusal, or else of its answer.
 made-of : {A : Type 0} (t : Tables) (f : Reply → A) (o : Option ℕ) (m : Cabinet) (answer : Reply) →
-  f (replyUnless t o m answer) ≡ orRefused (λ number. f (machine.refused number m)) o (f answer)
+    f (replyUnless t o m answer) ≡ orRefused (λ number. f (machine.refused number m)) o (f answer)
 made-of t f none m answer = refl
 made-of t f (some number) m answer = refl
 
@@ -82,8 +82,8 @@ action-of true a = refl
 action-of false a = refl
 
 asked-by-rules : (t : Tables) (m : Cabinet) →
-  actionOf (reply t m ask)
-  ≡ answerBy action.Refused (askRules t m)
+    actionOf (reply t m ask)
+    ≡ answerBy action.Refused (askRules t m)
     (cond (eqb (m .state .0) (t .states)) action.Ended (action.Action (t .action (m .state))))
 unfolding reply answerBy
 asked-by-rules t m =
@@ -91,16 +91,16 @@ asked-by-rules t m =
     ∙ ap (orRefused action.Refused (refusal (askRules t m))) (action-of (eqb (m .state .0) (t .states)) (t .action (m .state)))
 
 reported-by-rules : (t : Tables) (m : Cabinet) (r : Result) →
-  reportOf m (reply t m (machine.report r))
-  ≡ answerBy (keeping m) (reportRules t m r) (report.Taken (fed t m (t .target (m .state) r)))
+    reportOf m (reply t m (machine.report r))
+    ≡ answerBy (keeping m) (reportRules t m r) (report.Taken (fed t m (t .target (m .state) r)))
 unfolding reply answerBy
 reported-by-rules t m r = made-of t (reportOf m) (refusal (reportRules t m r)) m (taken (fed t m (t .target (m .state) r)))
 
 -- A call for the action answers the first of refusals 1 to 11 and 16 that applies, or else Ended in state S and the state's
 -- action in any other.
 pub action-by-rules : (s : List ℕ) (m : Cabinet) →
-  actionAnswer s m
-  ≡ answerBy action.Refused (actionRules s m)
+    actionAnswer s m
+    ≡ answerBy action.Refused (actionRules s m)
     (cond (eqb (m .state .0) (tablesOf s .states)) action.Ended (action.Action (tablesOf s .action (m .state))))
 unfolding actionAnswer
 action-by-rules s m =
@@ -109,8 +109,8 @@ action-by-rules s m =
 
 -- A report answers the first of refusals 1 to 11 and 16 to 19 that applies, with the old state, or else takes the target state.
 pub report-by-rules : (s : List ℕ) (m : Cabinet) (r : Result) →
-  reportAnswer s m r
-  ≡ answerBy (keeping m) (resultRules s m r) (report.Taken (fed (tablesOf s) m (tablesOf s .target (m .state) r)))
+    reportAnswer s m r
+    ≡ answerBy (keeping m) (resultRules s m r) (report.Taken (fed (tablesOf s) m (tablesOf s .target (m .state) r)))
 unfolding reportAnswer
 report-by-rules s m r =
     ap (answerBy (keeping m) (fileRules s)) (reported-by-rules (tablesOf s) m r)

@@ -25,7 +25,7 @@ use Rattle.cabinet.proofs.CabinetRules.{action-opened, report-opened}
 
 -- A result that is not below R has no branch.
 pub no-branch-outside : (s : List ℕ) (j : Job) → Opened s j →
-  (q : ProgramState) (r : Result) → j .results ≤ r → none ≡ tablesOf s .target q r
+    (q : ProgramState) (r : Result) → j .results ≤ r → none ≡ tablesOf s .target q r
 no-branch-outside s j opened q r h = by (tablesOf s .target q r) refl
   where
     by : (o : Option ProgramState) → tablesOf s .target q r ≡ o → none ≡ o
@@ -52,7 +52,7 @@ module _ (s : List ℕ) (j : Job) (opened : Opened s j) (m : Cabinet) where
 
   -- The action in a state below S.
   pub action-acts :
-    m .state .0 < j .states → (a : Action) → a ≡ tablesOf s .action (m .state) → action.Action a ≡ actionAnswer s m
+      m .state .0 < j .states → (a : Action) → a ≡ tablesOf s .action (m .state) → action.Action a ≡ actionAnswer s m
   action-acts h a e = ap action.Action e ∙ replied-ask _ (asked-acts (tablesOf s) m (below-tables h))
 
   module _ (r : Result) where
@@ -75,30 +75,30 @@ module _ (s : List ℕ) (j : Job) (opened : Opened s j) (m : Cabinet) where
 
       -- Reports of a result with a branch, and the action of the state.
       module _
-        (q : ProgramState) (branch : some q ≡ tablesOf s .target (m .state) r)
-        (a : Action) (acts : a ≡ tablesOf s .action (m .state))
+          (q : ProgramState) (branch : some q ≡ tablesOf s .target (m .state) r)
+          (a : Action) (acts : a ≡ tablesOf s .action (m .state))
         where
-        in-range : r < tablesOf s .results
-        in-range = well-formed s j opened .target-range (m .state) q r (sym branch) .0
+          in-range : r < tablesOf s .results
+          in-range = well-formed s j opened .target-range (m .state) q r (sym branch) .0
 
-        -- The action does not move on.
-        pub report-stays :
-          movesOn (tablesOf s) a ≡ false → report.Taken (record { state = q; lamps = m .lamps }) ≡ reportAnswer s m r
-        report-stays stays =
-            replied-report _
-            (stays-taken (tablesOf s) m r (below-tables below) in-range (sym branch) (eqb-false _ _ (rw (sym acts) stays)))
+          -- The action does not move on.
+          pub report-stays :
+              movesOn (tablesOf s) a ≡ false → report.Taken (record { state = q; lamps = m .lamps }) ≡ reportAnswer s m r
+          report-stays stays =
+              replied-report _
+              (stays-taken (tablesOf s) m r (below-tables below) in-range (sym branch) (eqb-false _ _ (rw (sym acts) stays)))
 
-        moving : movesOn (tablesOf s) a ≡ true → tablesOf s .mark (tablesOf s .action (m .state)) ≡ 1
-        moving moves = eqb-true _ _ (rw (sym acts) moves)
+          moving : movesOn (tablesOf s) a ≡ true → tablesOf s .mark (tablesOf s .action (m .state)) ≡ 1
+          moving moves = eqb-true _ _ (rw (sym acts) moves)
 
-        -- The action moves on and no lamp is left.
-        pub report-no-lamp : movesOn (tablesOf s) a ≡ true → m .lamps ≡ 0 → report.Refused 19 m ≡ reportAnswer s m r
-        report-no-lamp moves e =
-            replied-report _ (lamp-refused (tablesOf s) m r (below-tables below) in-range (sym branch) (moving moves) e)
+          -- The action moves on and no lamp is left.
+          pub report-no-lamp : movesOn (tablesOf s) a ≡ true → m .lamps ≡ 0 → report.Refused 19 m ≡ reportAnswer s m r
+          report-no-lamp moves e =
+              replied-report _ (lamp-refused (tablesOf s) m r (below-tables below) in-range (sym branch) (moving moves) e)
 
-        -- The action moves on to the next lamp.
-        pub report-passes :
-          movesOn (tablesOf s) a ≡ true → 0 < m .lamps →
-          report.Taken (record { state = q; lamps = m .lamps - 1 }) ≡ reportAnswer s m r
-        report-passes moves h =
-            replied-report _ (passes-taken (tablesOf s) m r (below-tables below) in-range (sym branch) (moving moves) h)
+          -- The action moves on to the next lamp.
+          pub report-passes :
+              movesOn (tablesOf s) a ≡ true → 0 < m .lamps →
+              report.Taken (record { state = q; lamps = m .lamps - 1 }) ≡ reportAnswer s m r
+          report-passes moves h =
+              replied-report _ (passes-taken (tablesOf s) m r (below-tables below) in-range (sym branch) (moving moves) h)

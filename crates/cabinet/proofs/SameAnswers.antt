@@ -17,26 +17,26 @@ use Rattle.cabinet.specs.CabinetAnswers.{actionOf, reportOf, beginAnswer
 use Rattle.cabinet.proofs.CabinetRules.{begin-opened, action-opened, report-opened}
 
 module _
-  (s s′ : List ℕ) (j j′ : Job) (opened : Opened s j) (opened′ : Opened s′ j′)
-  (same : SameForCabinet (tablesOf s) (tablesOf s′))
+    (s s′ : List ℕ) (j j′ : Job) (opened : Opened s j) (opened′ : Opened s′ j′)
+    (same : SameForCabinet (tablesOf s) (tablesOf s′))
   where
-  -- Both begin with the same state, for every count.
-  pub same-begin : (count : ℕ) → beginAnswer s count ≡ beginAnswer s′ count
-  same-begin count =
-      begin-opened s j opened count
-      ∙ ap begun.Begun (cabinet-reads-plan (tablesOf s) (tablesOf s′) same .0 count)
-      ∙ sym (begin-opened s′ j′ opened′ count)
+    -- Both begin with the same state, for every count.
+    pub same-begin : (count : ℕ) → beginAnswer s count ≡ beginAnswer s′ count
+    same-begin count =
+        begin-opened s j opened count
+        ∙ ap begun.Begun (cabinet-reads-plan (tablesOf s) (tablesOf s′) same .0 count)
+        ∙ sym (begin-opened s′ j′ opened′ count)
 
-  -- Both name the same action, or Ended, or refuse the state.
-  pub same-action : (m : Cabinet) → actionAnswer s m ≡ actionAnswer s′ m
-  same-action m =
-      action-opened s j opened m
-      ∙ ap actionOf (cabinet-reads-plan (tablesOf s) (tablesOf s′) same .1 m ask)
-      ∙ sym (action-opened s′ j′ opened′ m)
+    -- Both name the same action, or Ended, or refuse the state.
+    pub same-action : (m : Cabinet) → actionAnswer s m ≡ actionAnswer s′ m
+    same-action m =
+        action-opened s j opened m
+        ∙ ap actionOf (cabinet-reads-plan (tablesOf s) (tablesOf s′) same .1 m ask)
+        ∙ sym (action-opened s′ j′ opened′ m)
 
-  -- Both take the same state, or refuse the report with the same number and the old state.
-  pub same-report : (m : Cabinet) (r : Result) → reportAnswer s m r ≡ reportAnswer s′ m r
-  same-report m r =
-      report-opened s j opened m r
-      ∙ ap (reportOf m) (cabinet-reads-plan (tablesOf s) (tablesOf s′) same .1 m (machine.report r))
-      ∙ sym (report-opened s′ j′ opened′ m r)
+    -- Both take the same state, or refuse the report with the same number and the old state.
+    pub same-report : (m : Cabinet) (r : Result) → reportAnswer s m r ≡ reportAnswer s′ m r
+    same-report m r =
+        report-opened s j opened m r
+        ∙ ap (reportOf m) (cabinet-reads-plan (tablesOf s) (tablesOf s′) same .1 m (machine.report r))
+        ∙ sym (report-opened s′ j′ opened′ m r)

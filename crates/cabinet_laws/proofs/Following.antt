@@ -41,20 +41,20 @@ module _ (t : Tables) (wf : WellFormed t) where
   begins-at-place start line of =
       record {
         in-range = record { state-range = wf .first-range; world-range = wf .start-range start (of .marked) };
-        end-range = of .fits .ended
+        end-range = of .fits .ended;
       }
 
   -- An execution keeps to such places.
   pub place-kept :
-    {ls : List Label} {q q′ : ProgramState} {s s′ : Situation} → T* (lampTheory t) (planOf t) ls q s q′ s′ →
-    Place t q s → Place t q′ s′
+      {ls : List Label} {q q′ : ProgramState} {s s′ : Situation} → T* (lampTheory t) (planOf t) ls q s q′ s′ →
+      Place t q s → Place t q′ s′
   place-kept a p =
       record { in-range = execution-in-range t wf a (p .in-range); end-range = rw (end-kept t wf a) (p .end-range) }
 
   -- ---- one step
 
   module _
-    {l : Label} {q q′ : ProgramState} {s s′ : Situation} (x : Step (lampTheory t) (planOf t) q s l q′ s′) (p : Place t q s) where
+      {l : Label} {q q′ : ProgramState} {s s′ : Situation} (x : Step (lampTheory t) (planOf t) q s l q′ s′) (p : Place t q s) where
     not-final : q .0 < t .states
     not-final =
         let h = p .in-range .state-range in
@@ -71,6 +71,7 @@ module _ (t : Tables) (wf : WellFormed t) where
       where
         in-range : resultOf l < t .results
         in-range = wf .target-range q q′ (resultOf l) (x .branch) .0
+
         go : (b : Bool) → movesOn t (t .action q) ≡ b → reply t (machineAt q s) (report (resultOf l)) ≡ taken (machineAt q′ s′)
         go true e =
             let one-fewer = step-passes t wf x (rw (x .acts) e) (p .end-range) in
@@ -88,8 +89,8 @@ module _ (t : Tables) (wf : WellFormed t) where
 
   -- Fed with the results of an execution, the machine moves as the execution does.
   execution-reported :
-    {ls : List Label} {q q′ : ProgramState} {s s′ : Situation} → T* (lampTheory t) (planOf t) ls q s q′ s′ → Place t q s →
-    left t (machineAt q s) (map (λ l. report (resultOf l)) ls) ≡ machineAt q′ s′
+      {ls : List Label} {q q′ : ProgramState} {s s′ : Situation} → T* (lampTheory t) (planOf t) ls q s q′ s′ → Place t q s →
+      left t (machineAt q s) (map (λ l. report (resultOf l)) ls) ≡ machineAt q′ s′
   unfolding left
   execution-reported here p = refl
   execution-reported (join {m = ls} {n = ms} a b) p =

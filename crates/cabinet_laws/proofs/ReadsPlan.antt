@@ -20,8 +20,14 @@ module _ (t t′ : Tables) (same : SameForCabinet t t′) where
   unfolding reply
   same-reply m ask = rw (same .states, same .acts (m .state))
   same-reply m (report r) =
-      rw (same .states, same .results, same-fed m (t .target (m .state) r), same .targets (m .state) r, same .acts (m .state),
-      same .marks (t′ .action (m .state)))
+      rw (
+        same .states,
+        same .results,
+        same-fed m (t .target (m .state) r),
+        same .targets (m .state) r,
+        same .acts (m .state),
+        same .marks (t′ .action (m .state)),
+      )
 
 -- Tables equal in marks and plan begin the cabinet and answer every call in the same way.
 pub cabinet-reads-plan : CabinetReadsPlan

@@ -56,22 +56,39 @@ module _ (t : Tables) (m : Cabinet) where
         pub lamp-refused : t .mark (t .action (m .state)) ≡ 1 → m .lamps ≡ 0 → reply t m (report r) ≡ refused 19 m
         unfolding reply refusal
         lamp-refused moves e =
-            rw (not-above (omega arith), not-ended below, lt-leb (t .results) r in-range, branch,
-            eq-eqb (t .mark (t .action (m .state))) 1 moves, eq-eqb (m .lamps) 0 e)
+            rw (
+              not-above (omega arith),
+              not-ended below,
+              lt-leb (t .results) r in-range,
+              branch,
+              eq-eqb (t .mark (t .action (m .state))) 1 moves,
+              eq-eqb (m .lamps) 0 e,
+            )
 
         -- Where the action moves on and a lamp is left the machine goes to the target state, with one lamp fewer.
         pub passes-taken :
-          t .mark (t .action (m .state)) ≡ 1 → 0 < m .lamps →
-          reply t m (report r) ≡ taken (record { state = q; lamps = m .lamps - 1 })
+            t .mark (t .action (m .state)) ≡ 1 → 0 < m .lamps →
+            reply t m (report r) ≡ taken (record { state = q; lamps = m .lamps - 1 })
         unfolding reply refusal
         passes-taken moves h =
-            rw (not-above (omega arith), not-ended below, lt-leb (t .results) r in-range, branch,
-            eq-eqb (t .mark (t .action (m .state))) 1 moves, ne-eqb (m .lamps) 0 (λ e. omega arith))
+            rw (
+              not-above (omega arith),
+              not-ended below,
+              lt-leb (t .results) r in-range,
+              branch,
+              eq-eqb (t .mark (t .action (m .state))) 1 moves,
+              ne-eqb (m .lamps) 0 (λ e. omega arith),
+            )
 
         -- Where the action does not move on the machine goes to the target state, with as many lamps.
         pub stays-taken :
-          t .mark (t .action (m .state)) ≢ 1 → reply t m (report r) ≡ taken (record { state = q; lamps = m .lamps })
+            t .mark (t .action (m .state)) ≢ 1 → reply t m (report r) ≡ taken (record { state = q; lamps = m .lamps })
         unfolding reply refusal
         stays-taken stays =
-            rw (not-above (omega arith), not-ended below, lt-leb (t .results) r in-range, branch,
-            ne-eqb (t .mark (t .action (m .state))) 1 stays)
+            rw (
+              not-above (omega arith),
+              not-ended below,
+              lt-leb (t .results) r in-range,
+              branch,
+              ne-eqb (t .mark (t .action (m .state))) 1 stays,
+            )

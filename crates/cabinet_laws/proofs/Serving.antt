@@ -24,8 +24,8 @@ module _ (t : Tables) where
 
   -- A refused report changes nothing.
   answered-besides :
-    {m n : Cabinet} {r : Result} {number : ℕ} {ls : List Label} {calls : List Call} →
-    Refuses t m r number → Answered m ls n calls → Answered m ls n (report r ∷ calls)
+      {m n : Cabinet} {r : Result} {number : ℕ} {ls : List Label} {calls : List Call} →
+      Refuses t m r number → Answered m ls n calls → Answered m ls n (report r ∷ calls)
   unfolding replies left
   answered-besides x k = record { owed = rw (x .refuses) (old-state x (k .owed)); leaves = rw (x .refuses) (k .leaves) }
 
@@ -44,8 +44,8 @@ module _ (t : Tables) where
 
   -- A step before an execution that is served, by a machine that answers with the step's action and takes its result.
   serves-step :
-    (l : Label) {ls : List Label} {m m′ n : Cabinet} →
-    reply t m ask ≡ act (actionOf l) → reply t m (report (resultOf l)) ≡ taken m′ → Serves m′ ls n → Serves m (l ∷ ls) n
+      (l : Label) {ls : List Label} {m m′ n : Cabinet} →
+      reply t m ask ≡ act (actionOf l) → reply t m (report (resultOf l)) ≡ taken m′ → Serves m′ ls n → Serves m (l ∷ ls) n
   unfolding replies left
   serves-step (did a r) e f later (ask ∷ calls) (asked h) =
       let k = serves-step (did a r) e f later calls h in
@@ -59,8 +59,8 @@ module _ (t : Tables) where
   module _ (wf : WellFormed t) where
     -- An execution before steps that are served.
     serves-before :
-      {ls : List Label} {q q′ : ProgramState} {s s′ : Situation} → T* (lampTheory t) (planOf t) ls q s q′ s′ → Place t q s →
-      (ms : List Label) {n : Cabinet} → Serves (machineAt q′ s′) ms n → Serves (machineAt q s) (ls ++ ms) n
+        {ls : List Label} {q q′ : ProgramState} {s s′ : Situation} → T* (lampTheory t) (planOf t) ls q s q′ s′ → Place t q s →
+        (ms : List Label) {n : Cabinet} → Serves (machineAt q′ s′) ms n → Serves (machineAt q s) (ls ++ ms) n
     serves-before here p ms later = later
     serves-before (join {m = ls} {n = ns} a b) p ms later =
         rw (append-assoc ls ns ms) (serves-before a p (ns ++ ms) (serves-before b (place-kept t wf a p) ms later))
@@ -68,8 +68,8 @@ module _ (t : Tables) where
 
     -- An execution that comes to state S is served.
     serves-execution :
-      {ls : List Label} {q : ProgramState} {s s′ : Situation} → T* (lampTheory t) (planOf t) ls q s (final t) s′ →
-      Place t q s → Serves (machineAt q s) ls (machineAt (final t) s′)
+        {ls : List Label} {q : ProgramState} {s s′ : Situation} → T* (lampTheory t) (planOf t) ls q s (final t) s′ →
+        Place t q s → Serves (machineAt q s) ls (machineAt (final t) s′)
     serves-execution {s′ = s′} a p =
         let at-end = serves-no-step (machineAt (final t) s′) (asked-ended t (machineAt (final t) s′) refl) in
         rw append-nil at (serves-before a p [] at-end)
@@ -87,5 +87,5 @@ cabinet-serves t wf count accepts start line of short =
       execution = execution;
       goal = goal;
       answers = λ calls h. serves calls h .owed;
-      leaves = λ calls h. serves calls h .leaves
+      leaves = λ calls h. serves calls h .leaves;
     }

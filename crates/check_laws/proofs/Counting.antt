@@ -25,7 +25,7 @@ without x (y ∷ l) (inr m) =
     record {
       others = y ∷ w .others;
       shorter = ap suc (w .shorter);
-      rest = λ z n d. ⊎-elim (λ f. inl f) (λ n. inr (w .rest z n d)) n
+      rest = λ z n d. ⊎-elim (λ f. inl f) (λ n. inr (w .rest z n d)) n;
     }
 
 no-longer : {A : Type 0} (l m : List A) → Distinct l → ((x : A) → x ∈ l → x ∈ m) → length l ≤ length m
@@ -62,9 +62,10 @@ module _ {A B : Type 0} (f : A → B) (d : A) where
 
   -- Where no two places have one element, the list has no repetitions.
   pub distinct-by-places :
-    (l : List A) → ((i j : ℕ) → i < j → j < length l → f (getD l i d) ≢ f (getD l j d)) → Distinct (map f l)
+      (l : List A) → ((i j : ℕ) → i < j → j < length l → f (getD l i d) ≢ f (getD l j d)) → Distinct (map f l)
   unfolding Distinct
   distinct-by-places [] h = tt
-  distinct-by-places (x ∷ l) h =
-      (λ m. let (i, k, e) = in-at-place l (f x) m in h 0 (suc i) (omega arith) (omega arith) e,
-      distinct-by-places l (λ i j u v. h (suc i) (suc j) (omega arith) (omega arith)))
+  distinct-by-places (x ∷ l) h = (
+    λ m. let (i, k, e) = in-at-place l (f x) m in h 0 (suc i) (omega arith) (omega arith) e,
+    distinct-by-places l (λ i j u v. h (suc i) (suc j) (omega arith) (omega arith)),
+  )

@@ -47,7 +47,7 @@ small first seen goal =
       start = λ w. eqb (w .0) 0;
       goal = λ w column. cond (eqb column 0) (goal (w .0)) (eqb 0 1);
       action = λ q. q .0;
-      target = targets seen
+      target = targets seen;
     }
 
 -- What is computed.

@@ -32,8 +32,8 @@ module _ (t : Tables) (wf : WellFormed t) (end : ℕ) (is-end : end < endKinds t
   -- ---- from the run to the graph
 
   run-fails :
-    (kind : FailureKind) (lamps : List ℕ) (p : Pair) → InRange t p → (k : ℕ) → along t end lamps p ≡ ran (Failure kind) k →
-    GraphFails (graph t) (number p) lamps end (kindNumber kind)
+      (kind : FailureKind) (lamps : List ℕ) (p : Pair) → InRange t p → (k : ℕ) → along t end lamps p ≡ ran (Failure kind) k →
+      GraphFails (graph t) (number p) lamps end (kindNumber kind)
   run-fails kind [] p range k h = go (lampWalk t p end) refl
     where
       go : (v : Walk) → lampWalk t p end ≡ v → GraphFails (graph t) (number p) [] end (kindNumber kind)
@@ -48,8 +48,8 @@ module _ (t : Tables) (wf : WellFormed t) (end : ℕ) (is-end : end < endKinds t
       go (λ p′ range′ (m, g). run-fails kind lamps p′ range′ m g) (lampWalk t p (lampColumn t c)) refl
     where
       go :
-        ((p′ : Pair) → InRange t p′ → AlongFails kind lamps p′ → GraphFails (graph t) (number p′) lamps end (kindNumber kind)) →
-        (v : Walk) → lampWalk t p (lampColumn t c) ≡ v → GraphFails (graph t) (number p) (c ∷ lamps) end (kindNumber kind)
+          ((p′ : Pair) → InRange t p′ → AlongFails kind lamps p′ → GraphFails (graph t) (number p′) lamps end (kindNumber kind)) →
+          (v : Walk) → lampWalk t p (lampColumn t c) ≡ v → GraphFails (graph t) (number p) (c ∷ lamps) end (kindNumber kind)
       go after (ended x n) e =
           let f = along-ends t end (c ∷ lamps) p x n e in
           let same : ended x n ≡ ended (Failure kind) n = cc in
@@ -68,7 +68,7 @@ module _ (t : Tables) (wf : WellFormed t) (end : ℕ) (is-end : end < endKinds t
   FailsSo f lamps p = (kind : FailureKind) × (kindNumber kind ≡ f) × AlongFails kind lamps p
 
   fails-run :
-    {x f : ℕ} {lamps : List ℕ} → GraphFails (graph t) x lamps end f → (p : Pair) → x ≡ number p → InRange t p → FailsSo f lamps p
+      {x f : ℕ} {lamps : List ℕ} → GraphFails (graph t) x lamps end f → (p : Pair) → x ≡ number p → InRange t p → FailsSo f lamps p
   fails-run (bad-end (kind, e, n)) p q range =
       let (k, w) = fails-walk (t .worlds) kind (lampWalk t p end) (sym (fate-of-pair t p end range) ∙ (rw q at e)) in
       (kind, n, (k, along-ends t end [] p (Failure kind) k w))
@@ -82,17 +82,18 @@ module _ (t : Tables) (wf : WellFormed t) (end : ℕ) (is-end : end < endKinds t
     where
       earlier : (p′ : Pair) (n : ℕ) → lampWalk t p (lampColumn t c) ≡ arrived p′ n → FailsSo f lamps p′ → FailsSo f (c ∷ lamps) p
       earlier p′ n w (kind, is, (k, g)) = (kind, is, (n + k, along-passes t end c lamps p p′ n w ∙ ap (runAfter n) g))
+
       go :
-        ((p′ : Pair) → y ≡ number p′ → InRange t p′ → FailsSo f lamps p′) →
-        (p′ : Pair) × (n : ℕ) × (lampWalk t p (lampColumn t c) ≡ arrived p′ n) × (y ≡ number p′) → FailsSo f (c ∷ lamps) p
+          ((p′ : Pair) → y ≡ number p′ → InRange t p′ → FailsSo f lamps p′) →
+          (p′ : Pair) × (n : ℕ) × (lampWalk t p (lampColumn t c) ≡ arrived p′ n) × (y ≡ number p′) → FailsSo f (c ∷ lamps) p
       go after (p′, n, w, m) =
           earlier p′ n w (after p′ m (arrived-in-range t wf (t .states * t .worlds) p p′ (lampColumn t c) n (sym w)))
 
 module _ (t : Tables) (wf : WellFormed t) where
   -- A failing line fails in the graph.
   pub fails-in-graph :
-    (kind : FailureKind) (start : WorldState) (line : Line) → Fails t kind start line →
-    FailsFrom (graph t) (start .0) (line .lamps) (line .end) (kindNumber kind)
+      (kind : FailureKind) (start : WorldState) (line : Line) → Fails t kind start line →
+      FailsFrom (graph t) (start .0) (line .lamps) (line .end) (kindNumber kind)
   fails-in-graph kind start line d =
       record {
         first = pairNumber (t .worlds) (pair (t .first) start);
@@ -100,15 +101,15 @@ module _ (t : Tables) (wf : WellFormed t) where
         of-kinds = d .fits .of-kinds;
         ended = d .fits .ended;
         fails =
-          let (k, e) = leads-run t wf start line (record { marked = d .marked; fits = d .fits }) (Failure kind) (d .leads) in
-          let range = start-in-range t wf start (d .marked) in
-          run-fails t wf (line .end) (d .fits .ended) kind (line .lamps) (pair (t .first) start) range k e
+            let (k, e) = leads-run t wf start line (record { marked = d .marked; fits = d .fits }) (Failure kind) (d .leads) in
+            let range = start-in-range t wf start (d .marked) in
+            run-fails t wf (line .end) (d .fits .ended) kind (line .lamps) (pair (t .first) start) range k e;
       }
 
   -- What fails in the graph with the number of a kind is a line that fails so.
   pub graph-fails :
-    (kind : FailureKind) (s end : ℕ) (lamps : List ℕ) → FailsFrom (graph t) s lamps end (kindNumber kind) →
-    Fails t kind (worldState s) (lineOf end lamps)
+      (kind : FailureKind) (s end : ℕ) (lamps : List ℕ) → FailsFrom (graph t) s lamps end (kindNumber kind) →
+      Fails t kind (worldState s) (lineOf end lamps)
   graph-fails kind s end lamps d =
       let (marked, first) = d .start in
       let fits : Fits t (lineOf end lamps) = record { of-kinds = d .of-kinds; ended = d .ended } in
@@ -119,5 +120,5 @@ module _ (t : Tables) (wf : WellFormed t) where
       record {
         marked = marked;
         fits = fits;
-        leads = run-leads t wf (worldState s) (lineOf end lamps) of (Failure kind) (rw same at along)
+        leads = run-leads t wf (worldState s) (lineOf end lamps) of (Failure kind) (rw same at along);
       }

@@ -26,6 +26,7 @@ kind-number-injective kind kind′ e = sym (back kind) ∙ ap kindFrom e ∙ bac
   where
     kindFrom : ℕ → FailureKind
     kindFrom n = cond (eqb n 1) NotLegal (cond (eqb n 2) NoBranch (cond (eqb n 3) Circles GoalFalse))
+
     back : (kind : FailureKind) → kindFrom (kindNumber kind) ≡ kind
     back NotLegal = refl
     back NoBranch = refl
@@ -51,7 +52,7 @@ module _ (worlds : ℕ) where
 
   -- Where the fate is an arrival, the walk arrives so.
   pub arrives-walk :
-    (y : ℕ) (v : Walk) → fateOf worlds v ≡ arrives y → (p : Pair) × (k : ℕ) × (v ≡ arrived p k) × (y ≡ pairNumber worlds p)
+      (y : ℕ) (v : Walk) → fateOf worlds v ≡ arrives y → (p : Pair) × (k : ℕ) × (v ≡ arrived p k) × (y ≡ pairNumber worlds p)
   arrives-walk y (ended Goal k) e = absurd (let z : _≡_ {A = ℕ} 0 1 = cc in omega arith)
   arrives-walk y (ended (Failure kind) k) e = absurd (let z : _≡_ {A = ℕ} 0 1 = cc in omega arith)
   arrives-walk y (arrived p k) e = (p, k, refl, cc)
@@ -65,7 +66,7 @@ module _ (t : Tables) where
 
   -- The fate of a pair by its number.
   pub fate-of-pair :
-    (p : Pair) (c : ℕ) → InRange t p → fate t (pairNumber (t .worlds) p) c ≡ fateOf (t .worlds) (lampWalk t p c)
+      (p : Pair) (c : ℕ) → InRange t p → fate t (pairNumber (t .worlds) p) c ≡ fateOf (t .worlds) (lampWalk t p c)
   unfolding fate
   fate-of-pair p c range =
       ap (λ (q : Pair). fateOf (t .worlds) (lampWalk t q c)) (pair-of-number (t .worlds) p (range .world-range))
@@ -80,6 +81,7 @@ module _ (t : Tables) where
           let g = walk-ends t n p c (judged t (p .world) c) (act-final t p c f) in
           let z : _≡_ {A = ℕ} 0 1 = cc in
           omega arith
+
       go : Dec (p .state .0 ≡ t .states) → p .state .0 < t .states
       go (yes f) = absurd (stuck n (eq-eqb (p .state .0) (t .states) f) e)
       go (no f) = omega (arith, range .state-range)

@@ -24,7 +24,7 @@ use Rattle.check_laws.proofs.VerdictRight.{verdict-right}
 module _ (t : Tables) (wf : WellFormed t) where
   -- A correct plan has no failing line.
   correct-never-fails :
-    (count : ℕ) (kind : FailureKind) (start : WorldState) (line : Line) → Accepts t count → ¬ (Fails t kind start line)
+      (count : ℕ) (kind : FailureKind) (start : WorldState) (line : Line) → Accepts t count → ¬ (Fails t kind start line)
   unfolding Correct Leads Ends
   correct-never-fails count kind start line a d =
       let of : Run-of t start line = record { marked = d .marked; fits = d .fits } in
@@ -36,8 +36,8 @@ module _ (t : Tables) (wf : WellFormed t) where
 
   -- A line fails in one way.
   fails-in-one-way :
-    (kind kind′ : FailureKind) (start : WorldState) (line : Line) →
-    Fails t kind start line → Fails t kind′ start line → kind ≡ kind′
+      (kind kind′ : FailureKind) (start : WorldState) (line : Line) →
+      Fails t kind start line → Fails t kind′ start line → kind ≡ kind′
   fails-in-one-way kind kind′ start line d d′ =
       let of : Run-of t start line = record { marked = d .marked; fits = d .fits } in
       let (k, e) = leads-run t wf start line of (Failure kind) (d .leads) in
@@ -46,13 +46,13 @@ module _ (t : Tables) (wf : WellFormed t) where
 
   -- There is one counterexample.
   one-counterexample :
-    (kind kind′ : FailureKind) (start start′ : WorldState) (line line′ : Line) →
-    Counterexample t kind start line → Counterexample t kind′ start′ line′ → failed kind start line ≡ failed kind′ start′ line′
+      (kind kind′ : FailureKind) (start start′ : WorldState) (line line′ : Line) →
+      Counterexample t kind start line → Counterexample t kind′ start′ line′ → failed kind start line ≡ failed kind′ start′ line′
   unfolding rank
   one-counterexample kind kind′ start start′ line line′ c c′ =
       let same-rank =
-            ≼-antisym (length (line .lamps) ∷ start .0 ∷ line .lamps) (length (line′ .lamps) ∷ start′ .0 ∷ line′ .lamps)
-            (c .first kind′ start′ line′ (c′ .fails)) (c′ .first kind start line (c .fails)) in
+      ≼-antisym (length (line .lamps) ∷ start .0 ∷ line .lamps) (length (line′ .lamps) ∷ start′ .0 ∷ line′ .lamps)
+      (c .first kind′ start′ line′ (c′ .fails)) (c′ .first kind start line (c .fails)) in
       let same-number : start .0 ≡ start′ .0 = cc in
       let same-lamps : line .lamps ≡ line′ .lamps = cc in
       let same-end : line .end ≡ line′ .end = omega (arith, one-end-kind t, c .fails .fits .ended, c′ .fails .fits .ended) in

@@ -31,15 +31,15 @@ use Rattle.check_laws.proofs.TableGraph.{graph}
 
 -- An execution never has more lamps before it than at its beginning.
 lamps-never-more :
-  (t : Tables) {ls : List Label} {q q′ : ProgramState} {s s′ : Situation} → T* (lampTheory t) (planOf t) ls q s q′ s′ →
-  length (s′ .rest .lamps) ≤ length (s .rest .lamps)
+    (t : Tables) {ls : List Label} {q q′ : ProgramState} {s s′ : Situation} → T* (lampTheory t) (planOf t) ls q s q′ s′ →
+    length (s′ .rest .lamps) ≤ length (s .rest .lamps)
 lamps-never-more t here = omega arith
 lamps-never-more t (join a b) = omega (arith, lamps-never-more t a, lamps-never-more t b)
 lamps-never-more t (step {q = q} {s = s} x) = rw (x .does .1) (no-more (movesOn t (t .action q)) (s .rest .lamps) (s .rest .end))
   where
     no-more :
-      (b : Bool) (lamps : List ℕ) (end : ℕ) →
-      length (cond b (passed (lineOf end lamps)) (lineOf end lamps) .lamps) ≤ length lamps
+        (b : Bool) (lamps : List ℕ) (end : ℕ) →
+        length (cond b (passed (lineOf end lamps)) (lineOf end lamps) .lamps) ≤ length lamps
     no-more false lamps end = omega arith
     no-more true [] end = omega arith
     no-more true (kind ∷ lamps) end = omega arith
@@ -74,8 +74,8 @@ module _ (t : Tables) (wf : WellFormed t) (end : ℕ) (is-end : end < endKinds t
 
     -- From there no execution comes back to the first lamp.
     no-return :
-      {ns : List Label} {q : ProgramState} {w : WorldState} →
-      ¬ (T* D P ns (p .state) (situation (p .world) (b .rest)) q (situation w (lineOf end lamps)))
+        {ns : List Label} {q : ProgramState} {w : WorldState} →
+        ¬ (T* D P ns (p .state) (situation (p .world) (b .rest)) q (situation w (lineOf end lamps)))
     no-return a = omega (arith, one-lamp-fewer, lamps-never-more t (b .by .before), lamps-never-more t a)
 
     -- So the walk at the first lamp does not end there.
@@ -89,57 +89,60 @@ module _ (t : Tables) (wf : WellFormed t) (end : ℕ) (is-end : end < endKinds t
         let stays = lingers-passes-none t wf (lineOf end lamps) p₀ range r in
         let before = ap (λ (l : Line). length (l .lamps)) (stays ms (b .by .state) (b .by .at) (b .by .before)) in
         let after =
-              ap (λ (l : Line). length (l .lamps))
-              (stays (ms ++ (b .label ∷ [])) (p .state) (situation (p .world) (b .rest)) whole) in
+        ap (λ (l : Line). length (l .lamps))
+        (stays (ms ++ (b .label ∷ [])) (p .state) (situation (p .world) (b .rest)) whole) in
         omega (arith, one-lamp-fewer)
 
   -- The walk passes the first lamp: to p, or to where the execution has still to pass a lamp.
   passes-later :
-    (c : ℕ) (lamps : List ℕ) (p₀ p p′ : Pair) (k : ℕ) (ms : List Label) → Passes (c ∷ lamps) p₀ ms p →
-    Arrives t p₀ (lineOf end (c ∷ lamps)) p′ k → (p′ ≡ p) ⊎ ((ns : List Label) × Passes lamps p′ ns p)
+      (c : ℕ) (lamps : List ℕ) (p₀ p p′ : Pair) (k : ℕ) (ms : List Label) → Passes (c ∷ lamps) p₀ ms p →
+      Arrives t p₀ (lineOf end (c ∷ lamps)) p′ k → (p′ ≡ p) ⊎ ((ns : List Label) × Passes lamps p′ ns p)
   passes-later c lamps p₀ p p′ k ms b a =
       go (decLt (length ms) (length (a .labels))) (ℕ-discrete (length (a .labels)) (length ms))
     where
       go :
-        Dec (length ms < length (a .labels)) → Dec (length (a .labels) ≡ length ms) →
-        (p′ ≡ p) ⊎ ((ns : List Label) × Passes lamps p′ ns p)
+          Dec (length ms < length (a .labels)) → Dec (length (a .labels) ≡ length ms) →
+          (p′ ≡ p) ⊎ ((ns : List Label) × Passes lamps p′ ns p)
       go (yes h) e =
           let fewer : length (ms ++ (b .label ∷ [])) ≤ length (a .labels) = omega (arith, length-append ms (b .label ∷ [])) in
           let (ns, f, back) = shared-beginning D P (steps-determined t wf) (whole (c ∷ lamps) p₀ ms p b) (a .staying) fewer in
           absurd (no-return (c ∷ lamps) p₀ ms p b back)
       go (no h) (yes e) =
           let (same-labels, same-state, same-situation) =
-                same-length-same-execution D P (steps-determined t wf) (a .staying) (b .by .before) e in
+          same-length-same-execution D P (steps-determined t wf) (a .staying) (b .by .before) e in
           let last =
-                subst₂ (λ q s. Step D P q s (b .label) (p .state) (situation (p .world) (b .rest)))
-                (sym same-state) (sym same-situation) (b .by .last) in
+          subst₂ (λ q s. Step D P q s (b .label) (p .state) (situation (p .world) (b .rest)))
+          (sym same-state) (sym same-situation) (b .by .last) in
           let (same-label, to-state, to-situation) = steps-determined t wf .one-step (a .passing) last in
           let to-world = ap (λ (s : Situation). s .world) to-situation in
           inl (ap₂ pair to-state to-world)
       go (no h) (no e) =
           let more : length (a .labels ++ (a .label ∷ [])) ≤ length ms =
-                omega (arith, length-append (a .labels) (a .label ∷ [])) in
+          omega (arith, length-append (a .labels) (a .label ∷ [])) in
           let (ns, f, rest) =
-                shared-beginning D P (steps-determined t wf) (join (a .staying) (step (a .passing))) (b .by .before) more in
-          inr (ns, record {
-            rest = b .rest;
-            label = b .label;
-            by = record { state = b .by .state; at = b .by .at; before = rest; last = b .by .last };
-            moves-on = b .moves-on
-          })
+          shared-beginning D P (steps-determined t wf) (join (a .staying) (step (a .passing))) (b .by .before) more in
+          inr (
+            ns,
+            record {
+              rest = b .rest;
+              label = b .label;
+              by = record { state = b .by .state; at = b .by .at; before = rest; last = b .by .last };
+              moves-on = b .moves-on;
+            },
+          )
 
   -- The graph reaches the pair to which the execution comes.
   pub passes-reached :
-    (s : ℕ) (lamps : List ℕ) (p₀ : Pair) (pre : List ℕ) → InRange t p₀ → Kinds (t .kinds) lamps →
-    Reach (graph t) s pre (number p₀) → (p : Pair) (ms : List Label) → Passes lamps p₀ ms p →
-    (pre′ : List ℕ) × Reach (graph t) s pre′ (number p)
+      (s : ℕ) (lamps : List ℕ) (p₀ : Pair) (pre : List ℕ) → InRange t p₀ → Kinds (t .kinds) lamps →
+      Reach (graph t) s pre (number p₀) → (p : Pair) (ms : List Label) → Passes lamps p₀ ms p →
+      (pre′ : List ℕ) × Reach (graph t) s pre′ (number p)
   unfolding Kinds
   passes-reached s [] p₀ pre range kinds r p ms b =
       go (lampWalk t p₀ end) refl (walk-means t (t .states * t .worlds) p₀ (lineOf end []))
     where
       go :
-        (v : Walk) → lampWalk t p₀ end ≡ v → WalkMeans t (lineOf end []) (t .states * t .worlds) p₀ v →
-        (pre′ : List ℕ) × Reach (graph t) s pre′ (number p)
+          (v : Walk) → lampWalk t p₀ end ≡ v → WalkMeans t (lineOf end []) (t .states * t .worlds) p₀ v →
+          (pre′ : List ℕ) × Reach (graph t) s pre′ (number p)
       go (ended x k) e m = absurd (not-ended [] p₀ ms p b x k range m)
       go (arrived p′ k) e m =
           let lamp = arrived-at-lamp t wf (t .states * t .worlds) p₀ p′ (lineOf end []) k is-end (sym e) in
@@ -149,10 +152,10 @@ module _ (t : Tables) (wf : WellFormed t) (end : ℕ) (is-end : end < endKinds t
       (lampWalk t p₀ (lampColumn t c)) refl (walk-means t (t .states * t .worlds) p₀ (lineOf end (c ∷ lamps)))
     where
       go :
-        ((p′ : Pair) → InRange t p′ → Reach (graph t) s (pre ▸ c) (number p′) → (ns : List Label) → Passes lamps p′ ns p →
-        (pre′ : List ℕ) × Reach (graph t) s pre′ (number p)) →
-        (v : Walk) → lampWalk t p₀ (lampColumn t c) ≡ v → WalkMeans t (lineOf end (c ∷ lamps)) (t .states * t .worlds) p₀ v →
-        (pre′ : List ℕ) × Reach (graph t) s pre′ (number p)
+          ((p′ : Pair) → InRange t p′ → Reach (graph t) s (pre ▸ c) (number p′) → (ns : List Label) → Passes lamps p′ ns p →
+          (pre′ : List ℕ) × Reach (graph t) s pre′ (number p)) →
+          (v : Walk) → lampWalk t p₀ (lampColumn t c) ≡ v → WalkMeans t (lineOf end (c ∷ lamps)) (t .states * t .worlds) p₀ v →
+          (pre′ : List ℕ) × Reach (graph t) s pre′ (number p)
       go after (ended x k) e m = absurd (not-ended (c ∷ lamps) p₀ ms p b x k range m)
       go after (arrived p′ k) e (arrives a) = at (passes-later c lamps p₀ p p′ k ms b a)
         where
@@ -160,6 +163,7 @@ module _ (t : Tables) (wf : WellFormed t) (end : ℕ) (is-end : end < endKinds t
           next =
               past-lamp r (record { low = kinds .0; high = kinds .1 })
               (fate-of-pair t p₀ (lampColumn t c) range ∙ ap (fateOf (t .worlds)) e)
+
           at : (p′ ≡ p) ⊎ ((ns : List Label) × Passes lamps p′ ns p) → (pre′ : List ℕ) × Reach (graph t) s pre′ (number p)
           at (inl same) = (pre ▸ c, subst (λ (q : Pair). Reach (graph t) s (pre ▸ c) (number q)) same next)
           at (inr (ns, b′)) =

@@ -33,25 +33,26 @@ module _ (t : Tables) (wf : WellFormed t) where
     where
       begins : Reach (graph t) (r .start .0) [] (number (pair (t .first) (r .start)))
       begins = from-start (r .marked, refl)
+
       go : Arrival t (r .labels) → (s : ℕ) × (pre : List ℕ) × Reach (graph t) s pre (number p)
       go (inl e) =
           let (same-labels, same-state, same-situation) =
-                same-length-same-execution (lampTheory t) (planOf t) (steps-determined t wf) here (r .execution)
-                (sym (ap (λ (ls : List Label). length ls) e)) in
+          same-length-same-execution (lampTheory t) (planOf t) (steps-determined t wf) here (r .execution)
+          (sym (ap (λ (ls : List Label). length ls) e)) in
           let same-world = ap (λ (s : Situation). s .world) same-situation in
           let same : pair (t .first) (r .start) ≡ p = ap₂ pair same-state same-world in
           (r .start .0, [], subst (λ (q : Pair). Reach (graph t) (r .start .0) [] (number q)) same begins)
       go (inr (ms, l, e, moves)) =
           let b : Passes t wf (r .line .end) (r .fits .ended) (r .line .lamps) (pair (t .first) (r .start)) ms p =
-                record {
-                  rest = r .rest;
-                  label = l;
-                  by = last-step (lampTheory t) (planOf t) ms (rw e at (r .execution));
-                  moves-on = moves
-                } in
+          record {
+            rest = r .rest;
+            label = l;
+            by = last-step (lampTheory t) (planOf t) ms (rw e at (r .execution));
+            moves-on = moves;
+          } in
           let (pre, reach) =
-                passes-reached t wf (r .line .end) (r .fits .ended) (r .start .0) (r .line .lamps) (pair (t .first) (r .start)) []
-                (start-in-range t wf (r .start) (r .marked)) (r .fits .of-kinds) begins p ms b in
+          passes-reached t wf (r .line .end) (r .fits .ended) (r .start .0) (r .line .lamps) (pair (t .first) (r .start)) []
+          (start-in-range t wf (r .start) (r .marked)) (r .fits .of-kinds) begins p ms b in
           (r .start .0, pre, reach)
 
   -- ---- from the graph to executions
@@ -64,21 +65,23 @@ module _ (t : Tables) (wf : WellFormed t) where
     pub marked : t .start (worldState s) ≡ true
     pub of-kinds : Kinds (t .kinds) pre
     pub past :
-      (rest : List ℕ) → (ls : List Label) × Arrival t ls ×
-      ExecutionAt t (pair (t .first) (worldState s)) (lineOf 0 (pre ++ rest)) ls at (lineOf 0 rest)
+        (rest : List ℕ) → (ls : List Label) × Arrival t ls ×
+        ExecutionAt t (pair (t .first) (worldState s)) (lineOf 0 (pre ++ rest)) ls at (lineOf 0 rest)
 
   -- An execution to a lamp, and then the walk that passes it.
   past-one-more :
-    {ls : List Label} {p₀ p p′ : Pair} {c k : ℕ} {lamps rest : List ℕ} →
-    ExecutionAt t p₀ (lineOf 0 lamps) ls p (lineOf 0 (c ∷ rest)) → Arrives t p (lineOf 0 (c ∷ rest)) p′ k →
-    (ms : List Label) × Arrival t ms × ExecutionAt t p₀ (lineOf 0 lamps) ms p′ (lineOf 0 rest)
-  past-one-more {ls} before a =
-      ((ls ++ a .labels) ++ (a .label ∷ []), inr (ls ++ a .labels, a .label, refl, a .moves-on),
-      join (join before (a .staying)) (step (a .passing)))
+      {ls : List Label} {p₀ p p′ : Pair} {c k : ℕ} {lamps rest : List ℕ} →
+      ExecutionAt t p₀ (lineOf 0 lamps) ls p (lineOf 0 (c ∷ rest)) → Arrives t p (lineOf 0 (c ∷ rest)) p′ k →
+      (ms : List Label) × Arrival t ms × ExecutionAt t p₀ (lineOf 0 lamps) ms p′ (lineOf 0 rest)
+  past-one-more {ls} before a = (
+    (ls ++ a .labels) ++ (a .label ∷ []),
+    inr (ls ++ a .labels, a .label, refl, a .moves-on),
+    join (join before (a .staying)) (step (a .passing)),
+  )
 
   walk-arrives :
-    (p p′ : Pair) (c k : ℕ) (rest : List ℕ) → lampWalk t p (lampColumn t c) ≡ arrived p′ k →
-    Arrives t p (lineOf 0 (c ∷ rest)) p′ k
+      (p p′ : Pair) (c k : ℕ) (rest : List ℕ) → lampWalk t p (lampColumn t c) ≡ arrived p′ k →
+      Arrives t p (lineOf 0 (c ∷ rest)) p′ k
   walk-arrives p p′ c k rest e =
       go (subst (λ (v : Walk). WalkMeans t (lineOf 0 (c ∷ rest)) (t .states * t .worlds) p v) e
       (walk-means t (t .states * t .worlds) p (lineOf 0 (c ∷ rest))))
@@ -87,20 +90,21 @@ module _ (t : Tables) (wf : WellFormed t) where
       go (arrives a) = a
 
   comes-on :
-    (s : ℕ) (pre : List ℕ) (x c y : ℕ) → Comes s pre x → Kind (t .kinds) c → fate t x (lampColumn t c) ≡ arrives-with y →
-    Comes s (pre ▸ c) y
+      (s : ℕ) (pre : List ℕ) (x c y : ℕ) → Comes s pre x → Kind (t .kinds) c → fate t x (lampColumn t c) ≡ arrives-with y →
+      Comes s (pre ▸ c) y
   comes-on s pre x c y came kind to =
       go (arrives-walk (t .worlds) y (lampWalk t (came .at) (lampColumn t c))
       (sym (fate-of-pair t (came .at) (lampColumn t c) (came .range)) ∙ (rw (came .is) at to)))
     where
       past :
-        (p : Pair) (k : ℕ) → lampWalk t (came .at) (lampColumn t c) ≡ arrived p k →
-        (rest : List ℕ) → (ls : List Label) × Arrival t ls ×
-        ExecutionAt t (pair (t .first) (worldState s)) (lineOf 0 ((pre ▸ c) ++ rest)) ls p (lineOf 0 rest)
+          (p : Pair) (k : ℕ) → lampWalk t (came .at) (lampColumn t c) ≡ arrived p k →
+          (rest : List ℕ) → (ls : List Label) × Arrival t ls ×
+          ExecutionAt t (pair (t .first) (worldState s)) (lineOf 0 ((pre ▸ c) ++ rest)) ls p (lineOf 0 rest)
       past p k e rest =
           rw (snoc-append pre c rest) (past-one-more (came .past (c ∷ rest) .2) (walk-arrives (came .at) p c k rest e))
+
       go :
-        (p : Pair) × (k : ℕ) × (lampWalk t (came .at) (lampColumn t c) ≡ arrived p k) × (y ≡ number p) → Comes s (pre ▸ c) y
+          (p : Pair) × (k : ℕ) × (lampWalk t (came .at) (lampColumn t c) ≡ arrived p k) × (y ≡ number p) → Comes s (pre ▸ c) y
       go (p, k, e, n) =
           record {
             at = p;
@@ -108,7 +112,7 @@ module _ (t : Tables) (wf : WellFormed t) where
             range = arrived-in-range t wf (t .states * t .worlds) (came .at) p (lampColumn t c) k (sym e);
             marked = came .marked;
             of-kinds = kinds-append (t .kinds) pre (c ∷ []) (came .of-kinds) (unfold Kinds in (kind .low, kind .high, tt));
-            past = past p k e
+            past = past p k e;
           }
 
   reach-comes : {s x : ℕ} {pre : List ℕ} → Reach (graph t) s pre x → Comes s pre x
@@ -119,26 +123,30 @@ module _ (t : Tables) (wf : WellFormed t) where
         range = start-in-range t wf (worldState s) marked;
         marked = marked;
         of-kinds = unfold Kinds in tt;
-        past = λ rest. ([], inl refl, here)
+        past = λ rest. ([], inl refl, here);
       }
   reach-comes (past-lamp {s = s} {x = x} {c = c} {y = y} {p = pre} r kind to) = comes-on s pre x c y (reach-comes r) kind to
 
   -- What is reached in the graph is the number of a pair that is reached.
   pub graph-reached :
-    {s x : ℕ} {pre : List ℕ} → Reach (graph t) s pre x → (p : Pair) × (x ≡ number p) × InRange t p × Reached t p
+      {s x : ℕ} {pre : List ℕ} → Reach (graph t) s pre x → (p : Pair) × (x ≡ number p) × InRange t p × Reached t p
   graph-reached {s} {x} {pre} r =
       let came = reach-comes r in
-      let (ls, arrival, execution) = came .past [] in
-      (came .at, came .is, came .range, record {
-        start = worldState s;
-        line = lineOf 0 (pre ++ []);
-        marked = came .marked;
-        fits = record {
-          of-kinds = kinds-append (t .kinds) pre [] (came .of-kinds) (unfold Kinds in tt);
-          ended = omega (arith, one-end-kind t)
-        };
-        labels = ls;
-        rest = lineOf 0 [];
-        arrives = arrival;
-        execution = execution
-      })
+      let (ls, arrival, execution) = came .past [] in (
+        came .at,
+        came .is,
+        came .range,
+        record {
+          start = worldState s;
+          line = lineOf 0 (pre ++ []);
+          marked = came .marked;
+          fits = record {
+            of-kinds = kinds-append (t .kinds) pre [] (came .of-kinds) (unfold Kinds in tt);
+            ended = omega (arith, one-end-kind t);
+          };
+          labels = ls;
+          rest = lineOf 0 [];
+          arrives = arrival;
+          execution = execution;
+        },
+      )

@@ -33,32 +33,33 @@ use Rattle.check_laws.proofs.Counting.{at-place-in, in-at-place, distin
 module _ (t : Tables) (wf : WellFormed t) where
   -- The least failing line of the graph is the counterexample.
   pub least-right :
-    (kind : FailureKind) (s e : ℕ) (l : List ℕ) → Least (graph t) l e s (kindNumber kind) →
-    Counterexample t kind (worldState s) (lineOf e l)
+      (kind : FailureKind) (s e : ℕ) (l : List ℕ) → Least (graph t) l e s (kindNumber kind) →
+      Counterexample t kind (worldState s) (lineOf e l)
   unfolding rank
   least-right kind s e l least =
       record {
         fails = graph-fails t wf kind s e l (least .fails);
         first = λ kind′ start′ line′ d.
-          rw (stem-is s l, stem-is (start′ .0) (line′ .lamps)) at
-          (key-stem-order l (line′ .lamps) e (line′ .end) s (start′ .0) (kindNumber kind) (kindNumber kind′)
-          (least .least (start′ .0) (line′ .lamps) (line′ .end) (kindNumber kind′) (fails-in-graph t wf kind′ start′ line′ d)));
+            rw (stem-is s l, stem-is (start′ .0) (line′ .lamps)) at
+            (key-stem-order l (line′ .lamps) e (line′ .end) s (start′ .0) (kindNumber kind) (kindNumber kind′)
+            (least .least (start′ .0) (line′ .lamps) (line′ .end) (kindNumber kind′) (fails-in-graph t wf kind′ start′ line′ d)));
         short =
-          least-short (graph t) (PairNumber t) (λ x. x) (t .states * t .worlds) (coded t wf) (start-numbered t wf)
-          s l e (kindNumber kind) least
+            least-short (graph t) (PairNumber t) (λ x. x) (t .states * t .worlds) (coded t wf) (start-numbered t wf)
+            s l e (kindNumber kind) least;
       }
 
   -- Where no line fails in the graph, the plan is correct.
   none-fails-correct :
-    ((s : ℕ) (l : List ℕ) (e f : ℕ) → ¬ (FailsFrom (graph t) s l e f)) → Correct (lampProblem t) (planOf t)
+      ((s : ℕ) (l : List ℕ) (e f : ℕ) → ¬ (FailsFrom (graph t) s l e f)) → Correct (lampProblem t) (planOf t)
   unfolding Correct Leads Ends
   none-fails-correct none s (marked, fits) = go (run t (s .world) (s .rest)) refl
     where
       of : Run-of t (s .world) (s .rest)
       of = record { marked = marked; fits = fits }
+
       go :
-        (r : Run) → run t (s .world) (s .rest) ≡ r →
-        (ls : List Label) × (s′ : Situation) × T* (lampTheory t) (planOf t) ls (t .first) s (final t) s′ × lampProblem t .Goal s′
+          (r : Run) → run t (s .world) (s .rest) ≡ r →
+          (ls : List Label) × (s′ : Situation) × T* (lampTheory t) (planOf t) ls (t .first) s (final t) s′ × lampProblem t .Goal s′
       go (ran Goal k) e =
           let (ls, q, s′, execution, (is-final, goal)) = run-leads t wf (s .world) (s .rest) of Goal (k, e) in
           (ls, s′, subst (λ q. T* (lampTheory t) (planOf t) ls (t .first) s q s′) is-final execution, goal)
@@ -75,12 +76,12 @@ module _ (t : Tables) (wf : WellFormed t) where
 
     -- The number of the pair at a place is the node there, and the pair is reached.
     entry-reached :
-      (i : ℕ) → i < length E →
-      (pairNumber (t .worlds) (pairOf (t .worlds) (node E i)) ≡ node E i) × Reached t (pairOf (t .worlds) (node E i))
+        (i : ℕ) → i < length E →
+        (pairNumber (t .worlds) (pairOf (t .worlds) (node E i)) ≡ node E i) × Reached t (pairOf (t .worlds) (node E i))
     entry-reached i l =
         let (p, is, range, reached) = graph-reached t wf (at .inv .real i l) in
         let same : pairOf (t .worlds) (node E i) ≡ p =
-              ap (pairOf (t .worlds)) is ∙ pair-of-number (t .worlds) p (range .world-range) in
+        ap (pairOf (t .worlds)) is ∙ pair-of-number (t .worlds) p (range .world-range) in
         (ap (pairNumber (t .worlds)) same ∙ sym is, subst (Reached t) (sym same) reached)
 
     reached-listed : (p : Pair) → Reached t p → p ∈ map pairAt E
@@ -108,8 +109,8 @@ module _ (t : Tables) (wf : WellFormed t) where
             listed = map pairAt E;
             exactly = λ p. (reached-listed p, listed-reached p);
             once = distinct-by-places pairAt (entry 0 0 []) E (λ i j k l e.
-              at .inv .distinct i j k l
-              (sym (entry-reached i (omega arith) .0) ∙ ap (pairNumber (t .worlds)) e ∙ entry-reached j l .0));
-            number = length-map E pairAt
-          }
+                at .inv .distinct i j k l
+                (sym (entry-reached i (omega arith) .0) ∙ ap (pairNumber (t .worlds)) e ∙ entry-reached j l .0));
+            number = length-map E pairAt;
+          };
         }

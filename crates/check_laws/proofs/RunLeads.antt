@@ -22,9 +22,10 @@ module _ (t : Tables) (wf : WellFormed t) (start : WorldState) (line : Line) (of
   RestsSo x = Rests (lampProblem t) (planOf t) x (t .first) (situation start line)
 
   rests-after : (x : Ending) → RestsSo x → (k : ℕ) × RestsAfter t x k start line
-  rests-after x (ls, q, s, execution, ends) =
-      (length ls + ownSteps x,
-      record { labels = ls; state = q; at = s; execution = execution; ends = ends; count = refl })
+  rests-after x (ls, q, s, execution, ends) = (
+    length ls + ownSteps x,
+    record { labels = ls; state = q; at = s; execution = execution; ends = ends; count = refl },
+  )
 
   after-rests : {x : Ending} {k : ℕ} → RestsAfter t x k start line → RestsSo x
   after-rests r = (r .labels, r .state, r .at, r .execution, r .ends)

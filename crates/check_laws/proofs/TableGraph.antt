@@ -34,7 +34,7 @@ module _ (t : Tables) where
         Start = λ s x. (t .start (worldState s) ≡ true) × (x ≡ startNode t s);
         To = λ x c y. fate t x (lampColumn t c) ≡ arrives y;
         Bad = λ x c f. FailsAt x (lampColumn t c) f;
-        BadEnd = λ x e f. FailsAt x e f
+        BadEnd = λ x e f. FailsAt x e f;
       }
 
   fails-once : (x c f f′ : ℕ) → FailsAt x c f → FailsAt x c f′ → f ≡ f′
@@ -55,25 +55,30 @@ module _ (t : Tables) where
         record {
           start-one = λ s x x′ (m, e) (m′, e′). e ∙ sym e′;
           start-own = λ s s′ x (m, e) (m′, e′).
-            let same =
-                  pair-number-injective (t .worlds) (pair (t .first) (worldState s)) (pair (t .first) (worldState s′))
-                  (wf .start-range (worldState s) m) (wf .start-range (worldState s′) m′) (sym e ∙ e′) in
-            ap (λ (p : Pair). p .world .0) same;
+              let same =
+              pair-number-injective (t .worlds) (pair (t .first) (worldState s)) (pair (t .first) (worldState s′))
+              (wf .start-range (worldState s) m) (wf .start-range (worldState s′) m′) (sym e ∙ e′) in
+              ap (λ (p : Pair). p .world .0) same;
           to-one = λ x c y y′ e e′. (cc);
           bad-one = λ x c. fails-once x (lampColumn t c);
           bad-to = λ x c f y (kind, e, n) e′. let z : _≡_ {A = ℕ} 0 1 = cc in omega arith;
-          end-one = λ x e. fails-once x e
+          end-one = λ x e. fails-once x e;
         }
 
     -- An edge leaves a pair of the tables that is not final, and leads to one of the tables.
     to-arrives :
-      (p : Pair) (c y : ℕ) → InRange t p → fate t (pairNumber (t .worlds) p) (lampColumn t c) ≡ arrives y →
-      (p .state .0 < t .states) × PairNumber y
+        (p : Pair) (c y : ℕ) → InRange t p → fate t (pairNumber (t .worlds) p) (lampColumn t c) ≡ arrives y →
+        (p .state .0 < t .states) × PairNumber y
     to-arrives p c y range to =
         let v = lampWalk t p (lampColumn t c) in
-        let (p′, k, e, n) = arrives-walk (t .worlds) y v (sym (fate-of-pair t p (lampColumn t c) range) ∙ to) in
-        (arrived-not-final t (t .states * t .worlds) p p′ (lampColumn t c) k range e, (p′, n,
-        arrived-in-range t wf (t .states * t .worlds) p p′ (lampColumn t c) k (sym e)))
+        let (p′, k, e, n) = arrives-walk (t .worlds) y v (sym (fate-of-pair t p (lampColumn t c) range) ∙ to) in (
+          arrived-not-final t (t .states * t .worlds) p p′ (lampColumn t c) k range e,
+          (
+            p′,
+            n,
+            arrived-in-range t wf (t .states * t .worlds) p p′ (lampColumn t c) k (sym e),
+          ),
+        )
 
     -- The starts begin below (S + 1)·W.
     pub start-bound : (s x : ℕ) → graph .Start s x → x < (t .states + 1) * t .worlds
@@ -97,6 +102,6 @@ module _ (t : Tables) where
         record {
           to-in = λ x c y (p, e, range) to. to-arrives p c y range (rw e at to) .1;
           code-bound = λ x c y (p, e, range) to.
-            rw e (pair-number-bound (t .states) (t .worlds) p (to-arrives p c y range (rw e at to) .0) (range .world-range));
-          code-own = λ x c y x′ c′ y′ n to n′ to′ e. e
+              rw e (pair-number-bound (t .states) (t .worlds) p (to-arrives p c y range (rw e at to) .0) (range .world-range));
+          code-own = λ x c y x′ c′ y′ n to n′ to′ e. e;
         }

@@ -50,14 +50,14 @@ module _ (t : Tables) (wf : WellFormed t) where
 
     -- It is marked, and its pair fails at no end.
     pub start-good :
-      t .start (worldState s) ≡ true → GoodAtEnds t (startNode t s) →
-      Begun (graph t) (grown E (entry (startNode t s) s [])) (s + 1)
+        t .start (worldState s) ≡ true → GoodAtEnds t (startNode t s) →
+        Begun (graph t) (grown E (entry (startNode t s) s [])) (s + 1)
     start-good e good = begin-add (graph t) E s begun (plain t wf) (startNode t s) (e, refl) good
 
     -- It is marked, and its pair fails at an end.
     pub start-bad :
-      (end : ℕ) (kind : FailureKind) → t .start (worldState s) ≡ true → BadAtEnd t (startNode t s) end kind →
-      Counterexample t kind (worldState s) (lineOf end [])
+        (end : ℕ) (kind : FailureKind) → t .start (worldState s) ≡ true → BadAtEnd t (startNode t s) end kind →
+        Counterexample t kind (worldState s) (lineOf end [])
     start-bad end kind e bad =
         least-right t wf kind s end []
         (begin-lowest (graph t) E s begun (plain t wf) (startNode t s) (e, refl) end (kindNumber kind) (bad .is-end)
@@ -90,7 +90,7 @@ module _ (t : Tables) (wf : WellFormed t) where
 
     -- The run arrives with a pair of the table.
     pub fate-met :
-      (y j : ℕ) → fate t (node E h) (lampColumn t k) ≡ arrives y → j < length E → node E j ≡ y → At (graph t) E h (k + 1)
+        (y j : ℕ) → fate t (node E h) (lampColumn t k) ≡ arrives y → j < length E → node E j ≡ y → At (graph t) E h (k + 1)
     fate-met y j e l is =
         turn-quiet (graph t) E h k at (λ f b. plain t wf .bad-to (node E h) k f y b e)
         (λ y′ e′. (j, l, is ∙ plain t wf .to-one (node E h) k y y′ e e′))
@@ -98,23 +98,23 @@ module _ (t : Tables) (wf : WellFormed t) where
     module _ (kind : Kind (t .kinds) k) where
       -- The run fails at the lamp.
       pub fate-fails :
-        (x : FailureKind) → fate t (node E h) (lampColumn t k) ≡ fails x →
-        Counterexample t x (worldState (start E h)) (lineOf 0 (path E h ▸ k))
+          (x : FailureKind) → fate t (node E h) (lampColumn t k) ≡ fails x →
+          Counterexample t x (worldState (start E h)) (lineOf 0 (path E h ▸ k))
       fate-fails x e =
           least-right t wf x (start E h) 0 (path E h ▸ k)
           (fails-lamp (graph t) E h k at (plain t wf) kind (omega (arith, one-end-kind t)) (kindNumber x) (x, e, refl))
 
       -- The run arrives with a pair that is not in the table.
       module _
-        (y : ℕ) (e : fate t (node E h) (lampColumn t k) ≡ arrives y) (new : (i : ℕ) → i < length E → node E i ≢ y) where
+          (y : ℕ) (e : fate t (node E h) (lampColumn t k) ≡ arrives y) (new : (i : ℕ) → i < length E → node E i ≢ y) where
         -- It fails at no end.
         pub new-good : GoodAtEnds t y → At (graph t) (grown E (onward E h k y)) h (k + 1)
         new-good good = turn-add (graph t) E h k at (plain t wf) kind y new e good
 
         -- It fails at an end.
         pub new-bad :
-          (end : ℕ) (x : FailureKind) → BadAtEnd t y end x →
-          Counterexample t x (worldState (start E h)) (lineOf end (path E h ▸ k))
+            (end : ℕ) (x : FailureKind) → BadAtEnd t y end x →
+            Counterexample t x (worldState (start E h)) (lineOf end (path E h ▸ k))
         new-bad end x bad =
             least-right t wf x (start E h) end (path E h ▸ k)
             (fails-end (graph t) E h k at (plain t wf) kind y new e end (kindNumber x) (bad .is-end) (x, bad .fate-is, refl)

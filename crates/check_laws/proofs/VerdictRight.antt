@@ -33,8 +33,8 @@ met-true [] y e = absurd (let z : _≡_ {A = ℕ} 0 1 = cc in omega arith)
 met-true (v ∷ E) y e = go (met-true E y) (eqb (v .node) y) refl e
   where
     go :
-      (met E y ≡ true → (j : ℕ) × (j < length E) × (node E j ≡ y)) → (b : Bool) → eqb (v .node) y ≡ b → (b || met E y) ≡ true →
-      (j : ℕ) × (j < suc (length E)) × (node (v ∷ E) j ≡ y)
+        (met E y ≡ true → (j : ℕ) × (j < length E) × (node E j ≡ y)) → (b : Bool) → eqb (v .node) y ≡ b → (b || met E y) ≡ true →
+        (j : ℕ) × (j < suc (length E)) × (node (v ∷ E) j ≡ y)
     go after true f e = (0, omega arith, eqb-true (v .node) y f)
     go after false f e = let (j, l, g) = after e in (suc j, omega arith, g)
 
@@ -44,8 +44,8 @@ met-false [] y e i l = absurd (omega arith)
 met-false (v ∷ E) y e i l = go (met-false E y) (eqb (v .node) y) refl e i l
   where
     go :
-      (met E y ≡ false → (i : ℕ) → i < length E → node E i ≢ y) → (b : Bool) → eqb (v .node) y ≡ b → (b || met E y) ≡ false →
-      (i : ℕ) → i < suc (length E) → node (v ∷ E) i ≢ y
+        (met E y ≡ false → (i : ℕ) → i < length E → node E i ≢ y) → (b : Bool) → eqb (v .node) y ≡ b → (b || met E y) ≡ false →
+        (i : ℕ) → i < suc (length E) → node (v ∷ E) i ≢ y
     go after true f e i l = absurd (let z : _≡_ {A = ℕ} 0 1 = cc in omega arith)
     go after false f e zero l = eqb-false (v .node) y f
     go after false f e (suc i) l = after e i (omega arith)
@@ -59,7 +59,7 @@ module _ (t : Tables) where
   EndsSay x (bad e kind) = BadAtEnd t x e kind
 
   ends-from :
-    (n e x : ℕ) → e + n ≡ endKinds t → ((e′ f : ℕ) → e′ < e → ¬ (FailsAt t x e′ f)) → EndsSay x (endsFrom t n e x)
+      (n e x : ℕ) → e + n ≡ endKinds t → ((e′ f : ℕ) → e′ < e → ¬ (FailsAt t x e′ f)) → EndsSay x (endsFrom t n e x)
   unfolding endsFrom
   ends-from zero e x h none = λ e′ f l. none e′ f (omega arith)
   ends-from (suc n) e x h none = go (ends-from n (e + 1) x (omega arith)) (fate t x e) refl
@@ -70,14 +70,15 @@ module _ (t : Tables) where
           at : Dec (e′ < e) → ⊥
           at (yes u) = none e′ f u (kind, g, k)
           at (no u) = let same : e′ ≡ e = omega arith in here kind (rw same at g)
+
       go :
-        (((e′ f : ℕ) → e′ < e + 1 → ¬ (FailsAt t x e′ f)) → EndsSay x (endsFrom t n (e + 1) x)) →
-        (v : Fate) → fate t x e ≡ v →
-        EndsSay x (elim v as (λ _. AtEnds) [
-          succeeds ↦ endsFrom t n (e + 1) x
-        | fails kind ↦ bad e kind
-        | arrives y ↦ endsFrom t n (e + 1) x
-        ])
+          (((e′ f : ℕ) → e′ < e + 1 → ¬ (FailsAt t x e′ f)) → EndsSay x (endsFrom t n (e + 1) x)) →
+          (v : Fate) → fate t x e ≡ v →
+          EndsSay x (elim v as (λ _. AtEnds) [
+            | succeeds ↦ endsFrom t n (e + 1) x
+            | fails kind ↦ bad e kind
+            | arrives y ↦ endsFrom t n (e + 1) x
+          ])
       go after succeeds f = after (also (λ kind g. let z : _≡_ {A = ℕ} 0 1 = cc in omega arith))
       go after (fails kind) f = record { is-end = omega arith; fate-is = f; lowest = none }
       go after (arrives y) f = after (also (λ kind g. let z : _≡_ {A = ℕ} 0 1 = cc in omega arith))
@@ -93,8 +94,8 @@ module _ (t : Tables) where
   Owes P (goes-on E) = P E
 
   and-then :
-    (P Q : List Entry → Type 0) (r : Turn) (f : List Entry → Turn) →
-    Owes P r → ((E : List Entry) → P E → Owes Q (f E)) → Owes Q (andThen r f)
+      (P Q : List Entry → Type 0) (r : Turn) (f : List Entry → Turn) →
+      Owes P r → ((E : List Entry) → P E → Owes Q (f E)) → Owes Q (andThen r f)
   and-then P Q (answers v) f h after = h
   and-then P Q (goes-on E) f h after = after E h
 
@@ -106,8 +107,8 @@ module _ (t : Tables) where
       Next E′ = At (graph t) E′ h (k + 1)
 
       arrival-right :
-        (y : ℕ) → fate t (node E h) (lampColumn t k) ≡ arrives y → (b : Bool) → met E y ≡ b →
-        (ends : AtEnds) → EndsSay y ends → Owes Next (arrival E h k y b ends)
+          (y : ℕ) → fate t (node E h) (lampColumn t k) ≡ arrives y → (b : Bool) → met E y ≡ b →
+          (ends : AtEnds) → EndsSay y ends → Owes Next (arrival E h k y b ends)
       unfolding Right
       arrival-right y e true m ends say = let (j, l, is) = met-true E y m in fate-met t wf E h k at y j e l is
       arrival-right y e false m good say = new-good t wf E h k at kind y e (met-false E y m) say
@@ -122,8 +123,8 @@ module _ (t : Tables) where
     -- ---- the loops
 
     kinds-right :
-      (n : ℕ) (E : List Entry) (h k : ℕ) → At (graph t) E h k → 1 ≤ k → k + n ≡ t .kinds + 1 →
-      Owes (λ E′. At (graph t) E′ h (t .kinds + 1)) (kindsFrom t n E h k)
+        (n : ℕ) (E : List Entry) (h k : ℕ) → At (graph t) E h k → 1 ≤ k → k + n ≡ t .kinds + 1 →
+        Owes (λ E′. At (graph t) E′ h (t .kinds + 1)) (kindsFrom t n E h k)
     unfolding kindsFrom
     kinds-right zero E h k at low e = let last : k ≡ t .kinds + 1 = omega arith in subst (At (graph t) E h) last at
     kinds-right (suc n) E h k at low e =
@@ -142,7 +143,7 @@ module _ (t : Tables) where
     Through E = (i : ℕ) × At (graph t) E i (t .kinds + 1) × (length E ≤ i + 1)
 
     entries-right :
-      (n : ℕ) (E : List Entry) (h : ℕ) → Stands E h → (t .states + 1) * t .worlds ≤ h + n → Owes Through (entriesFrom t n E h)
+        (n : ℕ) (E : List Entry) (h : ℕ) → Stands E h → (t .states + 1) * t .worlds ≤ h + n → Owes Through (entriesFrom t n E h)
     unfolding entriesFrom
     entries-right zero E h (at-entry at) fuel = absurd (omega (arith, entries-bound t wf E h 1 at, at .inv .b≤n))
     entries-right zero E h (behind-last i e at end) fuel = (i, at, omega arith)
@@ -151,13 +152,14 @@ module _ (t : Tables) where
         next : (E′ : List Entry) → At (graph t) E′ h (t .kinds + 1) → Dec (h + 1 < length E′) → Stands E′ (h + 1)
         next E′ at (yes l) = at-entry (turn-next (graph t) E′ h at l)
         next E′ at (no l) = behind-last h refl at (omega arith)
+
         go :
-          (b : Bool) → ltb h (length E) ≡ b → Stands E h →
-          ((E′ : List Entry) → Stands E′ (h + 1) → Owes Through (entriesFrom t n E′ (h + 1))) →
-          Owes Through (elim b as (λ _. Turn) [
-            false ↦ goes-on E
-          | true ↦ andThen (kindsFrom t (t .kinds) E h 1) (λ E′. entriesFrom t n E′ (h + 1))
-          ])
+            (b : Bool) → ltb h (length E) ≡ b → Stands E h →
+            ((E′ : List Entry) → Stands E′ (h + 1) → Owes Through (entriesFrom t n E′ (h + 1))) →
+            Owes Through (elim b as (λ _. Turn) [
+              | false ↦ goes-on E
+              | true ↦ andThen (kindsFrom t (t .kinds) E h 1) (λ E′. entriesFrom t n E′ (h + 1))
+            ])
         go false f (at-entry at) after = absurd (omega (arith, ltb-false h (length E) f, at .inv .b≤n))
         go false f (behind-last i e at end) after = (i, at, omega arith)
         go true f (at-entry at) after =
@@ -168,17 +170,17 @@ module _ (t : Tables) where
         go true f (behind-last i e at end) after = absurd (omega (arith, ltb-true h (length E) f))
 
     beginning-right :
-      (E : List Entry) (s : ℕ) → Begun (graph t) E s → (b : Bool) → t .start (worldState s) ≡ b →
-      (ends : AtEnds) → EndsSay (startNode t s) ends →
-      Owes (λ E′. Begun (graph t) E′ (s + 1)) (beginning E s (startNode t s) b ends)
+        (E : List Entry) (s : ℕ) → Begun (graph t) E s → (b : Bool) → t .start (worldState s) ≡ b →
+        (ends : AtEnds) → EndsSay (startNode t s) ends →
+        Owes (λ E′. Begun (graph t) E′ (s + 1)) (beginning E s (startNode t s) b ends)
     unfolding Right
     beginning-right E s begun false e ends say = start-unmarked t wf E s begun e
     beginning-right E s begun true e good say = start-good t wf E s begun e say
     beginning-right E s begun true e (bad end kind) say = start-bad t wf E s begun end kind e say
 
     starts-right :
-      (n : ℕ) (E : List Entry) (s : ℕ) → Begun (graph t) E s → s + n ≡ t .worlds →
-      Owes (λ E′. Begun (graph t) E′ (t .worlds)) (startsFrom t n E s)
+        (n : ℕ) (E : List Entry) (s : ℕ) → Begun (graph t) E s → s + n ≡ t .worlds →
+        Owes (λ E′. Begun (graph t) E′ (t .worlds)) (startsFrom t n E s)
     unfolding startsFrom
     starts-right zero E s begun e = let last : s ≡ t .worlds = omega arith in subst (Begun (graph t) E) last begun
     starts-right (suc n) E s begun e =

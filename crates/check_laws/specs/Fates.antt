@@ -42,9 +42,9 @@ module _ (t : Tables) where
   endsFrom zero e x = good
   endsFrom (suc n) e x =
       elim (fate x e) [
-        succeeds ↦ endsFrom n (e + 1) x
-      | fails kind ↦ bad e kind
-      | arrives y ↦ endsFrom n (e + 1) x
+        | succeeds ↦ endsFrom n (e + 1) x
+        | fails kind ↦ bad e kind
+        | arrives y ↦ endsFrom n (e + 1) x
       ]
 
   -- The pair at all kinds of ends.

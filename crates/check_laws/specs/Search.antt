@@ -68,8 +68,8 @@ module _ (t : Tables) where
   entriesFrom zero E h = goes-on E
   entriesFrom (suc n) E h =
       elim (ltb h (length E)) [
-        false ↦ goes-on E
-      | true ↦ andThen (kindsFrom (t .kinds) E h 1) (λ E′. entriesFrom n E′ (h + 1))
+        | false ↦ goes-on E
+        | true ↦ andThen (kindsFrom (t .kinds) E h 1) (λ E′. entriesFrom n E′ (h + 1))
       ]
 
   -- The marked ones of n starts from s on are taken.

@@ -55,8 +55,8 @@ module _ (t : Tables) (c : ℕ) where
   walk-far (suc n) p = go (λ p′. walk-far n p′) (act t p c) refl
     where
       go :
-        ((p′ : Pair) → uncounted (walk t n p′ c) ≡ stopped (far t c n p′)) → (m : Move) → act t p c ≡ m →
-        uncounted (walk t (suc n) p c) ≡ stopped (next m (λ p′. far t c n p′))
+          ((p′ : Pair) → uncounted (walk t n p′ c) ≡ stopped (far t c n p′)) → (m : Move) → act t p c ≡ m →
+          uncounted (walk t (suc n) p c) ≡ stopped (next m (λ p′. far t c n p′))
       go after (ends x) e = ap uncounted (walk-ends t n p c x e)
       go after (stays p′) e = ap uncounted (walk-stays t n p p′ c e) ∙ uncounted-after 1 (walk t n p′ c) ∙ after p′
       go after (passes p′) e = ap uncounted (walk-passes t n p p′ c e)
@@ -71,8 +71,8 @@ module _ (t : Tables) (c : ℕ) where
   far-lingers (suc n) p p′ e live = go (λ p″ e. far-lingers n p″ p′ e live) (act t p c) refl e
     where
       go :
-        ((p″ : Pair) → far t c n p″ ≡ stays p′ → Lingers t c n p″) → (m : Move) → act t p c ≡ m →
-        next m (λ p″. far t c n p″) ≡ stays p′ → Lingers t c (suc n) p
+          ((p″ : Pair) → far t c n p″ ≡ stays p′ → Lingers t c n p″) → (m : Move) → act t p c ≡ m →
+          next m (λ p″. far t c n p″) ≡ stays p′ → Lingers t c (suc n) p
       go after (ends x) f e = absurd (let z : _≡_ {A = ℕ} 0 1 = cc in omega arith)
       go after (stays p″) f e = stays-on f (after p″ e)
       go after (passes p″) f e = absurd (let z : _≡_ {A = ℕ} 0 1 = cc in omega arith)
@@ -136,22 +136,28 @@ module _ (t : Tables) (wf : WellFormed t) (c : ℕ) (p : Pair) (range : InRange 
     where
       most : ℕ
       most = t .states * t .worlds
+
       rest : ℕ
       rest = n - suc most
+
       all : most + suc rest ≡ n
       all = omega arith
+
       on : (m : Move) → far t c most p ≡ m → far t c n p ≡ next m (λ p′. far t c (suc rest) p′)
       on m e = ap (λ (k : ℕ). far t c k p) (sym all) ∙ far-joined t c most (suc rest) p m e
+
       walked : (m : Move) → far t c most p ≡ m → stopped t c m ≡ uncounted (lampWalk t p c)
       walked m e = sym (walk-far t c most p ∙ ap (stopped t c) e)
+
       tested : (p′ : Pair) → far t c most p ≡ stays p′ → (b : Bool) → isFinal t (p′ .state) ≡ b →
-        settled (far t c n p) ≡ uncounted (lampWalk t p c)
+          settled (far t c n p) ≡ uncounted (lampWalk t p c)
       tested p′ e true f =
           ap settled (on (stays p′) e ∙ far-first t c rest p′ (ends (judged t (p′ .world) c)) (act-final t p′ c f))
           ∙ sym (ap uncounted (walk-spent t p′ c true f)) ∙ walked (stays p′) e
       tested p′ e false f =
           still-stays (far-lingers t c most p p′ e (λ g. eqb-false (p′ .state .0) (t .states) f (ap (λ q. q .0) g))) n
           ∙ sym (ap uncounted (walk-spent t p′ c false f)) ∙ walked (stays p′) e
+
       go : (m : Move) → far t c most p ≡ m → settled (far t c n p) ≡ uncounted (lampWalk t p c)
       go (ends x) e = ap settled (on (ends x) e) ∙ walked (ends x) e
       go (stays p′) e = tested p′ e (isFinal t (p′ .state)) refl

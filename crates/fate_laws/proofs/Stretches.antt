@@ -38,7 +38,7 @@ module _ (t : Tables) (c : ℕ) where
   far-one p = next-none (act t p c)
 
   next-next :
-    (m : Move) (f g h : Pair → Move) → ((p : Pair) → f p ≡ next (g p) h) → next m f ≡ next (next m g) h
+      (m : Move) (f g h : Pair → Move) → ((p : Pair) → f p ≡ next (g p) h) → next m f ≡ next (next m g) h
   next-next (ends x) f g h e = refl
   next-next (stays p) f g h e = e p
   next-next (passes p) f g h e = refl
@@ -73,8 +73,8 @@ module _ (t : Tables) (wf : WellFormed t) (c : ℕ) where
       go (passes p′) (l, made, moves) = step-in-range t wf made
 
   next-in-range :
-    (m : Move) (more : Pair → Move) → LeadsInRange t m → ((p : Pair) → InRange t p → LeadsInRange t (more p)) →
-    LeadsInRange t (next m more)
+      (m : Move) (more : Pair → Move) → LeadsInRange t m → ((p : Pair) → InRange t p → LeadsInRange t (more p)) →
+      LeadsInRange t (next m more)
   next-in-range (ends x) more h k = tt
   next-in-range (stays p) more h k = k p h
   next-in-range (passes p) more h k = h

@@ -50,5 +50,5 @@ bench-line =
       without-branch = verdict-of G-no-branch _ refl refl;
       final-first = verdict-of G-final _ refl refl;
       test-first = verdict-of G-test-first _ refl refl;
-      five-states = verdict-of G-five _ refl refl
+      five-states = verdict-of G-five _ refl refl;
     }

@@ -52,9 +52,9 @@ module _ (s : List ℕ) (j : Job) (opened : Opened s j) where
 
   -- The replies to a list of calls: the first, and those to the rest in the state after it.
   first-reply :
-    (m : Cabinet) (call : Call) (calls : List Call) (x : Reply) (answers : List Reply) →
-    x ∷ answers ≡ replies (tablesOf s) m (call ∷ calls) →
-    (reply (tablesOf s) m call ≡ x) × (answers ≡ replies (tablesOf s) (stateAfter m x) calls)
+      (m : Cabinet) (call : Call) (calls : List Call) (x : Reply) (answers : List Reply) →
+      x ∷ answers ≡ replies (tablesOf s) m (call ∷ calls) →
+      (reply (tablesOf s) m call ≡ x) × (answers ≡ replies (tablesOf s) (stateAfter m x) calls)
   unfolding replies
   first-reply m call calls x answers e =
       let here : reply (tablesOf s) m call ≡ x = cc in
@@ -63,9 +63,9 @@ module _ (s : List ℕ) (j : Job) (opened : Opened s j) where
 
   -- What is owed of the machine is owed of the operations.
   pub owed-follows :
-    {m : Cabinet} {ls : List Label} {calls : List Call} {answers : List Reply} →
-    Owed (tablesOf s) m ls calls answers → answers ≡ replies (tablesOf s) m calls →
-    OwedAnswers (tablesOf s) m ls calls (answersTo s m calls)
+      {m : Cabinet} {ls : List Label} {calls : List Call} {answers : List Reply} →
+      Owed (tablesOf s) m ls calls answers → answers ≡ replies (tablesOf s) m calls →
+      OwedAnswers (tablesOf s) m ls calls (answersTo s m calls)
   unfolding answersTo
   owed-follows machine.no-more e = owed.no-more
   owed-follows (machine.next-action {m = m} {a = a} {calls = calls} {answers = answers} o) e =

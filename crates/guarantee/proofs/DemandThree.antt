@@ -60,24 +60,24 @@ opened-by s more e = by (refusal (fileRules s)) refl
 
 -- What an accepted check says: the file is not refused, and the plan is accepted.
 accepted-means : (s : List ℕ) (count : ℕ) (before after : Lent) → Checked s (answer.Accepted count) before after →
-  Opened s (head s) × Accepts (tablesOf s) count
+    Opened s (head s) × Accepts (tablesOf s) count
 unfolding AnsweredRight Right
 accepted-means s count before after = by (refusal (checkRules s (length (before .line)) (length (before .list)) (length (before .words)))) refl
   where
     by : (o : Option ℕ) → refusal (checkRules s (length (before .line)) (length (before .list)) (length (before .words))) ≡ o →
-      CheckedBy o (tablesOf s) (answer.Accepted count) before after → Opened s (head s) × Accepts (tablesOf s) count
+        CheckedBy o (tablesOf s) (answer.Accepted count) before after → Opened s (head s) × Accepts (tablesOf s) count
     by none e (accepts, same) = (opened-by s _ e, accepts)
     by (some number) e (refused, same) = absurd (let z : _≡_ {A = ℕ} 0 1 = cc in omega arith)
 
 -- What a failed check says: the file is not refused, and the line at the front of the buffer is the counterexample.
 failed-means : (s : List ℕ) (f : FailedAnswer) (before after : Lent) → Checked s (answer.Failed f) before after →
-  Opened s (head s) × Counterexample (tablesOf s) (f .kind) (f .start) (lineIn (after .line) (f .lamps))
+    Opened s (head s) × Counterexample (tablesOf s) (f .kind) (f .start) (lineIn (after .line) (f .lamps))
 unfolding AnsweredRight Right
 failed-means s f before after = by (refusal (checkRules s (length (before .line)) (length (before .list)) (length (before .words)))) refl
   where
     by : (o : Option ℕ) → refusal (checkRules s (length (before .line)) (length (before .list)) (length (before .words))) ≡ o →
-      CheckedBy o (tablesOf s) (answer.Failed f) before after →
-      Opened s (head s) × Counterexample (tablesOf s) (f .kind) (f .start) (lineIn (after .line) (f .lamps))
+        CheckedBy o (tablesOf s) (answer.Failed f) before after →
+        Opened s (head s) × Counterexample (tablesOf s) (f .kind) (f .start) (lineIn (after .line) (f .lamps))
     by none e right = (opened-by s _ e, right .right)
     by (some number) e (refused, same) = absurd (let z : _≡_ {A = ℕ} 0 1 = cc in omega arith)
 
@@ -98,16 +98,16 @@ pub record ServedOnFile (s : List ℕ) (start : WorldState) (lamps : List ℕ) :
   pub execution : Execution (tablesOf s) start (lineOf lamps) labels (final (tablesOf s)) last
   pub goal : lampProblem (tablesOf s) .Goal last
   pub answers :
-    (calls : List Call) → Reports (tablesOf s) (begin (tablesOf s) (length lamps)) (map resultOf labels) calls →
-    OwedAnswers (tablesOf s) (begin (tablesOf s) (length lamps)) labels calls
-    (answersTo s (begin (tablesOf s) (length lamps)) calls)
+      (calls : List Call) → Reports (tablesOf s) (begin (tablesOf s) (length lamps)) (map resultOf labels) calls →
+      OwedAnswers (tablesOf s) (begin (tablesOf s) (length lamps)) labels calls
+      (answersTo s (begin (tablesOf s) (length lamps)) calls)
   pub leaves :
-    (calls : List Call) → Reports (tablesOf s) (begin (tablesOf s) (length lamps)) (map resultOf labels) calls →
-    leftBy s (begin (tablesOf s) (length lamps)) calls
-    ≡ record { state = final (tablesOf s); lamps = length (last .rest .lamps) }
+      (calls : List Call) → Reports (tablesOf s) (begin (tablesOf s) (length lamps)) (map resultOf labels) calls →
+      leftBy s (begin (tablesOf s) (length lamps)) calls
+      ≡ record { state = final (tablesOf s); lamps = length (last .rest .lamps) }
 
 pub cabinet-served : (s : List ℕ) (count : ℕ) (before after : Lent) → Checked s (answer.Accepted count) before after →
-  (start : WorldState) (lamps : List ℕ) → Served-line s start lamps → ServedOnFile s start lamps
+    (start : WorldState) (lamps : List ℕ) → Served-line s start lamps → ServedOnFile s start lamps
 cabinet-served s count before after checked start lamps line =
     let (opened, accepts) = accepted-means s count before after checked in
     let served = cabinet-serves (tablesOf s) (well-formed s (head s) opened) count accepts start (lineOf lamps) (line .run-of) (line .few) in
@@ -118,7 +118,7 @@ cabinet-served s count before after checked start lamps line =
       execution = served .execution;
       goal = served .goal;
       answers = λ calls reports. owed-follows s (head s) opened (served .answers calls reports) refl;
-      leaves = λ calls reports. left-follows s (head s) opened _ calls ∙ served .leaves calls reports
+      leaves = λ calls reports. left-follows s (head s) opened _ calls ∙ served .leaves calls reports;
     }
 
 -- ---- runs after a check
@@ -128,31 +128,33 @@ abbrev pub RunEnds : List ℕ → WorldState → List ℕ → Ending → Type 0
 RunEnds s start lamps x = (k : ℕ) × ((limit : ℕ) → k ≤ limit → runAnswer s start lamps limit ≡ ran.Ended x k)
 
 run-answers : (s : List ℕ) (j : Job) → Opened s j → (start : WorldState) (lamps : List ℕ) → Served-line s start lamps → (x : Ending) →
-  Leads (lampProblem (tablesOf s)) (planOf (tablesOf s)) x (tablesOf s .first) (situation start (lineOf lamps)) → RunEnds s start lamps x
+    Leads (lampProblem (tablesOf s)) (planOf (tablesOf s)) x (tablesOf s .first) (situation start (lineOf lamps)) → RunEnds s start lamps x
 run-answers s j opened start lamps line x leads =
-    let (k, e) = leads-run (tablesOf s) (well-formed s j opened) start (lineOf lamps) (line .run-of) x leads in
-    (k, λ limit k≤. run-ends-exactly s j opened start (line .run-of .marked) lamps
-    (line-not-wrong (j .kinds) lamps (line .few) (rw (kinds-are s j opened) (line .run-of .fits .of-kinds))) limit x k .1
-    (run-is-execution (tablesOf s) (well-formed s j opened) start (lineOf lamps) (line .run-of) x k .0 e, k≤))
+    let (k, e) = leads-run (tablesOf s) (well-formed s j opened) start (lineOf lamps) (line .run-of) x leads in (
+      k,
+      λ limit k≤. run-ends-exactly s j opened start (line .run-of .marked) lamps
+          (line-not-wrong (j .kinds) lamps (line .few) (rw (kinds-are s j opened) (line .run-of .fits .of-kinds))) limit x k .1
+          (run-is-execution (tablesOf s) (well-formed s j opened) start (lineOf lamps) (line .run-of) x k .0 e, k≤),
+    )
 
 -- After Accepted every run of every line of the job from every marked start ends in Goal.
 pub accepted-runs : (s : List ℕ) (count : ℕ) (before after : Lent) → Checked s (answer.Accepted count) before after →
-  (start : WorldState) (lamps : List ℕ) → Served-line s start lamps → RunEnds s start lamps Goal
+    (start : WorldState) (lamps : List ℕ) → Served-line s start lamps → RunEnds s start lamps Goal
 unfolding Leads Correct Ends
 accepted-runs s count before after checked start lamps line =
     let (opened, accepts) = accepted-means s count before after checked in
     let (ls, last, execution, goal) =
-        accepts .correct (situation start (lineOf lamps)) (line .run-of .marked, line .run-of .fits) in
+    accepts .correct (situation start (lineOf lamps)) (line .run-of .marked, line .run-of .fits) in
     run-answers s (head s) opened start lamps line Goal (ls, final (tablesOf s), last, execution, (refl, goal))
 
 -- After Failed the run of the written line from the named start ends in the named failure.
 pub failed-runs : (s : List ℕ) (f : FailedAnswer) (before after : Lent) → Checked s (answer.Failed f) before after →
-  RunEnds s (f .start) (take (f .lamps) (after .line)) (Failure (f .kind))
+    RunEnds s (f .start) (take (f .lamps) (after .line)) (Failure (f .kind))
 failed-runs s f before after checked =
     let (opened, example) = failed-means s f before after checked in
     run-answers s (head s) opened (f .start) (take (f .lamps) (after .line))
     (record {
       run-of = record { marked = example .fails .marked; fits = example .fails .fits };
-      few = omega (arith, example .short, few-steps s (head s) opened)
+      few = omega (arith, example .short, few-steps s (head s) opened);
     })
     (Failure (f .kind)) (example .fails .leads)

@@ -44,17 +44,17 @@ module _ (t : Tables) where
   pub data OwedAnswers : Cabinet → List Label → List Call → List Answer → Type 0 where
     no-more : {m : Cabinet} → OwedAnswers m [] [] []
     next-action :
-      {m : Cabinet} {a : Action} {r : Result} {ls : List Label} {calls : List Call} {answers : List Answer} →
-      OwedAnswers m (did a r ∷ ls) calls answers →
-      OwedAnswers m (did a r ∷ ls) (ask ∷ calls) (to-ask (asked.Action a) ∷ answers)
+        {m : Cabinet} {a : Action} {r : Result} {ls : List Label} {calls : List Call} {answers : List Answer} →
+        OwedAnswers m (did a r ∷ ls) calls answers →
+        OwedAnswers m (did a r ∷ ls) (ask ∷ calls) (to-ask (asked.Action a) ∷ answers)
     after-last :
-      {m : Cabinet} {calls : List Call} {answers : List Answer} →
-      OwedAnswers m [] calls answers → OwedAnswers m [] (ask ∷ calls) (to-ask asked.Ended ∷ answers)
+        {m : Cabinet} {calls : List Call} {answers : List Answer} →
+        OwedAnswers m [] calls answers → OwedAnswers m [] (ask ∷ calls) (to-ask asked.Ended ∷ answers)
     old-state :
-      {m : Cabinet} {r : Result} {number : ℕ} {ls : List Label} {calls : List Call} {answers : List Answer} →
-      Refuses t m r number → OwedAnswers m ls calls answers →
-      OwedAnswers m ls (report r ∷ calls) (to-report (reported.Refused number m) ∷ answers)
+        {m : Cabinet} {r : Result} {number : ℕ} {ls : List Label} {calls : List Call} {answers : List Answer} →
+        Refuses t m r number → OwedAnswers m ls calls answers →
+        OwedAnswers m ls (report r ∷ calls) (to-report (reported.Refused number m) ∷ answers)
     step-taken :
-      {m m′ : Cabinet} {a : Action} {r : Result} {ls : List Label} {calls : List Call} {answers : List Answer} →
-      OwedAnswers m′ ls calls answers →
-      OwedAnswers m (did a r ∷ ls) (report r ∷ calls) (to-report (reported.Taken m′) ∷ answers)
+        {m m′ : Cabinet} {a : Action} {r : Result} {ls : List Label} {calls : List Call} {answers : List Answer} →
+        OwedAnswers m′ ls calls answers →
+        OwedAnswers m (did a r ∷ ls) (report r ∷ calls) (to-report (reported.Taken m′) ∷ answers)

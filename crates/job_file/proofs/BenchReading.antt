@@ -49,5 +49,5 @@ bench-reading =
       goal-of-two = refl;
       action-of-four = refl;
       target-of-five = refl;
-      ten-before-eleven = refl
+      ten-before-eleven = refl;
     }

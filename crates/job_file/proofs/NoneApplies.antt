@@ -33,7 +33,7 @@ answered (some number) h j e = absurd (let z : _≡_ {A = ℕ} 0 1 = cc in omega
 
 -- A list of rules none of which applies: the first does not, and none of the others does.
 past : (number : ℕ) (applies : Bool) (more : List Rule) → refusal ((number when applies) ∷ more) ≡ none →
-  (applies ≡ false) × (refusal more ≡ none)
+    (applies ≡ false) × (refusal more ≡ none)
 unfolding refusal
 past number true more e = absurd (let z : _≡_ {A = ℕ} 0 1 = cc in omega arith)
 past number false more e = (refl, e)
@@ -63,7 +63,7 @@ none-of s j is-head e =
       starts = r₈ .0;
       goals = r₉ .0;
       actions = r₁₀ .0;
-      targets = r₁₁ .0
+      targets = r₁₁ .0;
     }
 
 pub none-applies : (s : List ℕ) (j : Job) → Opened s j → NoneApplies s j

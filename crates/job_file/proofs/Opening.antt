@@ -20,7 +20,7 @@ module _ {A : Type 0} (refused : ℕ → A) (s : List ℕ) (more : List Rule) (a
       by (refusal (fileRules s)) e ∙ sym (by-rules-before refused (fileRules s) more answer)
     where
       by : (o : Option ℕ) → orRefused reading.Refused o (reading.Job (head s)) ≡ reading.Refused number →
-        refused number ≡ orRefused refused o (answerBy refused more answer)
+          refused number ≡ orRefused refused o (answerBy refused more answer)
       by none e = absurd (let z : _≡_ {A = ℕ} 0 1 = cc in omega arith)
       by (some n) e = let same : n ≡ number = cc in ap refused (sym same)
 
@@ -30,6 +30,6 @@ module _ {A : Type 0} (refused : ℕ → A) (s : List ℕ) (more : List Rule) (a
   file-opened j e = by-rules-before refused (fileRules s) more answer ∙ by (refusal (fileRules s)) e
     where
       by : (o : Option ℕ) → orRefused reading.Refused o (reading.Job (head s)) ≡ reading.Job j →
-        orRefused refused o (answerBy refused more answer) ≡ answerBy refused more answer
+          orRefused refused o (answerBy refused more answer) ≡ answerBy refused more answer
       by none e = refl
       by (some n) e = absurd (let z : _≡_ {A = ℕ} 0 1 = cc in omega arith)

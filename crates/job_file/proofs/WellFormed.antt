@@ -50,7 +50,7 @@ cell-next : (worlds results next result : ℕ) → cellWrongIn worlds results ne
 cell-next worlds results next result e = leb-false _ _ (neither _ _ (neither _ _ e .0) .0)
 
 cell-result : (worlds results next result : ℕ) → cellWrongIn worlds results next result ≡ false → eqb result 255 ≡ false →
-  result < results
+    result < results
 cell-result worlds results next result e legal =
     let tests = neither (leb worlds next || leb results result && not (eqb result 255)) _ e in
     leb-false _ _ (unless (leb results result) (eqb result 255) (neither (leb worlds next) _ (tests .0) .1) legal)
@@ -71,14 +71,14 @@ pub record LegalCell (s : List ℕ) (j : Job) (a : Action) (w : WorldState) (c :
 
 module _ (s : List ℕ) (j : Job) where
   legal-cell : (a : Action) (w w′ : WorldState) (c : ℕ) (r : Result) → outcome w′ r ∈ tablesBy s j .cell a w c →
-    LegalCell s j a w c w′ r
+      LegalCell s j a w c w′ r
   unfolding _∈_
   legal-cell a w w′ c r = in-range (ltb a (j .actions) && ltb (w .0) (j .worlds) && ltb c (columns (j .kinds))) refl
     where
       is-legal : (b : Bool) → eqb (byte s (resultPlace j a w c)) 255 ≡ b →
-        ltb a (j .actions) && ltb (w .0) (j .worlds) && ltb c (columns (j .kinds)) ≡ true →
-        outcome w′ r ∈ cond b [] (outcome (worldState (byte s (nextPlace j a w c))) (byte s (resultPlace j a w c)) ∷ []) →
-        LegalCell s j a w c w′ r
+          ltb a (j .actions) && ltb (w .0) (j .worlds) && ltb c (columns (j .kinds)) ≡ true →
+          outcome w′ r ∈ cond b [] (outcome (worldState (byte s (nextPlace j a w c))) (byte s (resultPlace j a w c)) ∷ []) →
+          LegalCell s j a w c w′ r
       is-legal true e t m = absurd m
       is-legal false e t m =
           let is = only _ _ m in
@@ -90,10 +90,11 @@ module _ (s : List ℕ) (j : Job) where
             column-in = ltb-true _ _ (tests .1);
             legal = e;
             next = cc;
-            result = cc
+            result = cc;
           }
+
       in-range : (b : Bool) → ltb a (j .actions) && ltb (w .0) (j .worlds) && ltb c (columns (j .kinds)) ≡ b →
-        outcome w′ r ∈ cond b (outcomes (byte s (nextPlace j a w c)) (byte s (resultPlace j a w c))) [] → LegalCell s j a w c w′ r
+          outcome w′ r ∈ cond b (outcomes (byte s (nextPlace j a w c)) (byte s (resultPlace j a w c))) [] → LegalCell s j a w c w′ r
       in-range true e m = is-legal (eqb (byte s (resultPlace j a w c)) 255) refl e m
       in-range false e m = absurd m
 
@@ -102,7 +103,7 @@ module _ (s : List ℕ) (j : Job) where
     mark-bit a a< = ltb-false _ _ (none-at (notBit s (j .marks .offset)) (j .actions) (none-applies .marks) a a<)
 
     cell-right : (a : Action) (w : WorldState) (c : ℕ) → a < j .actions → w .0 < j .worlds → c < columns (j .kinds) →
-      cellWrongIn (j .worlds) (j .results) (byte s (nextPlace j a w c)) (byte s (resultPlace j a w c)) ≡ false
+        cellWrongIn (j .worlds) (j .results) (byte s (nextPlace j a w c)) (byte s (resultPlace j a w c)) ≡ false
     cell-right a w c a< w< c< =
         let row = digits-lt {q = a} {m = j .actions} {r = w .0} {c = j .worlds} a< w< in
         none-at (cellWrongAt s (j .cells .offset) (j .worlds) (j .results)) (j .actions * j .worlds * columns (j .kinds))
@@ -110,14 +111,14 @@ module _ (s : List ℕ) (j : Job) where
 
     -- An action that moves on has 255 for its result in column 0.
     end-result : (a : Action) (w : ℕ) → a < j .actions → w < j .worlds → eqb (byte s (markPlace j a)) 1 ≡ true →
-      eqb (byte s (resultPlace j a (worldState w) 0)) 255 ≡ true
+        eqb (byte s (resultPlace j a (worldState w) 0)) 255 ≡ true
     end-result a w a< w< moves =
         let here = none-at (movesOnAtEnd s j) (j .actions) (none-applies .ends) a a< in
         let nowhere = second _ _ here moves in
         not-false _ (none-at (legalAtEnd s j a) (j .worlds) nowhere w w<)
 
     target-right : (q : ProgramState) (r : Result) → q .0 < j .states → r < j .results →
-      eqb (byte s (targetPlace j q r)) 255 ≡ false → byte s (targetPlace j q r) ≤ j .states
+        eqb (byte s (targetPlace j q r)) 255 ≡ false → byte s (targetPlace j q r) ≤ j .states
     target-right q r q< r< branched =
         let row = none-at (rowWrong s j) (j .states) (none-applies .targets) (q .0) q< in
         let here = none-at (targetWrongAt s (actionPlace j q + 1) (j .states)) (j .results) row r r< in
@@ -138,19 +139,20 @@ module _ (s : List ℕ) (j : Job) where
         is-legal : (b : Bool) (x : Outcome) → length (cond b [] (x ∷ [])) ≤ 1
         is-legal true x = omega arith
         is-legal false x = omega arith
+
         in-range : (b : Bool) →
-          length (cond b (outcomes (byte s (nextPlace j a w c)) (byte s (resultPlace j a w c))) []) ≤ 1
+            length (cond b (outcomes (byte s (nextPlace j a w c)) (byte s (resultPlace j a w c))) []) ≤ 1
         in-range true = is-legal (eqb (byte s (resultPlace j a w c)) 255) _
         in-range false = omega arith
 
     next-range : (a : Action) (w w′ : WorldState) (c : ℕ) (r : Result) → outcome w′ r ∈ tablesBy s j .cell a w c →
-      w′ .0 < j .worlds
+        w′ .0 < j .worlds
     next-range a w w′ c r m =
         let cell = legal-cell a w w′ c r m in
         rw (cell .next) (cell-next (j .worlds) (j .results) _ (byte s (resultPlace j a w c)) (cell-right a w c (cell .action-in) (cell .world-in) (cell .column-in)))
 
     result-range : (a : Action) (w w′ : WorldState) (c : ℕ) (r : Result) → outcome w′ r ∈ tablesBy s j .cell a w c →
-      r < j .results
+        r < j .results
     result-range a w w′ c r m =
         let cell = legal-cell a w w′ c r m in
         rw (cell .result)
@@ -158,30 +160,30 @@ module _ (s : List ℕ) (j : Job) where
 
     -- In column 0, for an action that is marked as moving on.
     no-outcome : (a : Action) (w : WorldState) → a < j .actions → eqb (byte s (markPlace j a)) 1 ≡ true →
-      tablesBy s j .cell a w 0 ≡ []
+        tablesBy s j .cell a w 0 ≡ []
     no-outcome a w a< moves = in-range (ltb a (j .actions) && ltb (w .0) (j .worlds) && ltb 0 (columns (j .kinds))) refl
       where
         in-range : (b : Bool) → ltb a (j .actions) && ltb (w .0) (j .worlds) && ltb 0 (columns (j .kinds)) ≡ b →
-          cond b (outcomes (byte s (nextPlace j a w 0)) (byte s (resultPlace j a w 0))) [] ≡ []
+            cond b (outcomes (byte s (nextPlace j a w 0)) (byte s (resultPlace j a w 0))) [] ≡ []
         in-range true e =
             let w< = ltb-true _ _ (both (ltb a (j .actions)) _ (both _ (ltb 0 (columns (j .kinds))) e .0) .1) in
             rw (end-result a (w .0) a< w< moves)
         in-range false e = refl
 
     end-stays : (a : Action) (w : WorldState) (c : ℕ) → movesOn (tablesBy s j) a ≡ true → c < endKinds (tablesBy s j) →
-      tablesBy s j .cell a w c ≡ []
+        tablesBy s j .cell a w c ≡ []
     unfolding endKinds
     end-stays a w c moves c< = let at-end : c ≡ 0 = omega arith in rw at-end (by (ltb a (j .actions)) refl moves)
       where
         by : (b : Bool) → ltb a (j .actions) ≡ b → eqb (cond b (byte s (markPlace j a)) 0) 1 ≡ true →
-          tablesBy s j .cell a w 0 ≡ []
+            tablesBy s j .cell a w 0 ≡ []
         by true e m = no-outcome a w (ltb-true _ _ e) m
         by false e m = let z : false ≡ true = m in cc
 
     some-start : (w : WorldState) × (tablesBy s j .start w ≡ true)
     some-start =
         let one-set =
-            not-false _ (neither (some-below (j .worlds) (notBit s (j .starts .offset))) _ (none-applies .starts) .1) in
+        not-false _ (neither (some-below (j .worlds) (notBit s (j .starts .offset))) _ (none-applies .starts) .1) in
         let found = some-at (isSet s (j .starts .offset)) (j .worlds) one-set in
         (worldState (found .0), rw (lt-ltb _ _ (found .1)) (found .2))
 
@@ -189,17 +191,18 @@ module _ (s : List ℕ) (j : Job) where
     action-range q q< = leb-false _ _ (none-at (actionWrongAt s j) (j .states) (none-applies .actions) (q .0) q<)
 
     target-range : (q q′ : ProgramState) (r : Result) → tablesBy s j .target q r ≡ some q′ →
-      (r < j .results) × (q′ .0 ≤ j .states)
+        (r < j .results) × (q′ .0 ≤ j .states)
     target-range q q′ r = in-range (ltb (q .0) (j .states) && ltb r (j .results)) refl
       where
         is-branch : (b : Bool) → eqb (byte s (targetPlace j q r)) 255 ≡ b → q .0 < j .states → r < j .results →
-          cond b none (some (programState (byte s (targetPlace j q r)))) ≡ some q′ → (r < j .results) × (q′ .0 ≤ j .states)
+            cond b none (some (programState (byte s (targetPlace j q r)))) ≡ some q′ → (r < j .results) × (q′ .0 ≤ j .states)
         is-branch true e q< r< t = absurd (let z : _≡_ {A = ℕ} 0 1 = cc in omega arith)
         is-branch false e q< r< t =
             let is : byte s (targetPlace j q r) ≡ q′ .0 = cc in
             (r<, rw (sym is) (target-right q r q< r< e))
+
         in-range : (b : Bool) → ltb (q .0) (j .states) && ltb r (j .results) ≡ b →
-          cond b (branch (byte s (targetPlace j q r))) none ≡ some q′ → (r < j .results) × (q′ .0 ≤ j .states)
+            cond b (branch (byte s (targetPlace j q r))) none ≡ some q′ → (r < j .results) × (q′ .0 ≤ j .states)
         in-range true e t =
             let tests = both _ _ e in
             is-branch (eqb (byte s (targetPlace j q r)) 255) refl (ltb-true _ _ (tests .0)) (ltb-true _ _ (tests .1)) t
@@ -222,7 +225,7 @@ module _ (s : List ℕ) (j : Job) where
           start-range = λ w set. ltb-true _ _ (both _ _ set .0);
           some-start = some-start;
           action-range = action-range;
-          target-range = target-range
+          target-range = target-range;
         }
 
 -- ---- the law
@@ -240,5 +243,5 @@ sound s j opened =
     record {
       is-head = none .is-head;
       laid = placed;
-      well-formed = subst (λ (h : Job). WellFormed (tablesBy s h)) (none .is-head) (tables-well-formed s j none placed)
+      well-formed = subst (λ (h : Job). WellFormed (tablesBy s h)) (none .is-head) (tables-well-formed s j none placed);
     }

@@ -2,8 +2,8 @@
 ghost use mathlib.Core.Path.{_≡_};
 ghost use Rattle.job_layout.specs.Laid.{Laid};
 ghost use Rattle.job_file.specs.Reading.{readingOf, readingFrom, refusalOf};
-use job_layout::head::read_head;
 use job_layout::Job;
+use job_layout::head::read_head;
 use job_rules::head_rules::length_wrong;
 use job_rules::head_rules::number_wrong;
 use job_rules::head_rules::pair_wrong;

@@ -22,9 +22,9 @@ pub record BenchCabinet : Type 0 where
   pub after-the-end : reply (tablesOf G) (at 4 5) (report 9) ≡ refused 17 (at 4 5)
   pub above-the-final : reply (tablesOf G) (at 5 0) (report 0) ≡ refused 16 (at 5 0)
   pub whole-list :
-    replies (tablesOf G) (begin (tablesOf G) 1)
-    (ask ∷ report 2 ∷ report 1 ∷ ask ∷ report 0 ∷ report 1 ∷ report 0 ∷ ask ∷ report 0 ∷ ask ∷ report 0 ∷ [])
-    ≡ act 0 ∷ refused 18 (at 0 1) ∷ taken (at 1 1) ∷ act 1 ∷ taken (at 3 1) ∷ refused 18 (at 3 1) ∷ taken (at 0 0) ∷ act 0
+      replies (tablesOf G) (begin (tablesOf G) 1)
+      (ask ∷ report 2 ∷ report 1 ∷ ask ∷ report 0 ∷ report 1 ∷ report 0 ∷ ask ∷ report 0 ∷ ask ∷ report 0 ∷ [])
+      ≡ act 0 ∷ refused 18 (at 0 1) ∷ taken (at 1 1) ∷ act 1 ∷ taken (at 3 1) ∷ refused 18 (at 3 1) ∷ taken (at 0 0) ∷ act 0
       ∷ taken (at 4 0) ∷ ended ∷ refused 17 (at 4 0) ∷ []
 
 pub bench-cabinet : BenchCabinet
@@ -38,5 +38,5 @@ bench-cabinet =
       no-branch-first = refl;
       after-the-end = refl;
       above-the-final = refl;
-      whole-list = refl
+      whole-list = refl;
     }

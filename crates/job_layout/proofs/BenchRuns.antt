@@ -48,5 +48,5 @@ bench-runs =
       final-at-lamp = refl;
       final-at-end = refl;
       not-legal = refl;
-      five-states = refl
+      five-states = refl;
     }

@@ -15,8 +15,8 @@ use Rattle.job_layout.specs.Layout.{markPlace, resultPlace, startPlace, 
 
 -- The place of a cell among the cells, for numbers of the widths that the head has.
 pub cell-fits :
-  (action worlds world columns : ℕ) → action ≤ 255 → worlds ≤ 255 → world ≤ 255 → columns ≤ 65535 →
-  (action * worlds + world) * columns ≤ 65280 * 65535
+    (action worlds world columns : ℕ) → action ≤ 255 → worlds ≤ 255 → world ≤ 255 → columns ≤ 65535 →
+    (action * worlds + world) * columns ≤ 65280 * 65535
 cell-fits action worlds world columns a w x c =
     let rows = product-le 255 255 action worlds a w in
     product-le 65280 65535 (action * worlds + world) columns (omega arith) c
@@ -32,8 +32,8 @@ module _ (s : List ℕ) (j : Job) (laid : Laid s j) where
 
   -- The result of a cell, and with it its next world state.
   pub result-in :
-    (a : Action) (w : WorldState) (c : ℕ) → a < j .actions → w .0 < j .worlds → c < columns (j .kinds) →
-    resultPlace j a w c < length s
+      (a : Action) (w : WorldState) (c : ℕ) → a < j .actions → w .0 < j .worlds → c < columns (j .kinds) →
+      resultPlace j a w c < length s
   result-in a w c a< w< c< =
       let row = digits-lt {q = a} {m = j .actions} {r = w .0} {c = j .worlds} a< w< in
       let cell = digits-lt {q = a * j .worlds + w .0} {m = j .actions * j .worlds} {r = c} {c = columns (j .kinds)} row c< in

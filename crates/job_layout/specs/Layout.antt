@@ -35,7 +35,7 @@ head s =
       cells = part s 12;
       starts = part s 16;
       goal = part s 20;
-      plan = part s 24
+      plan = part s 24;
     }
 
 -- ---- the length that each part must have

@@ -26,6 +26,7 @@ fn read_part(file: &[u8], at: usize) -> Part
     }
 }
 
+// For the crates above and not for users: it asks for a file that has a head, which refusal 1 has to find out first.
 pub fn read_head(file: &[u8]) -> Job
     requires { ⌜ 28 ≤ length (now file) ⌝ }
     ensures { λ r. ⌜ r ≡ head (now (file .entry)) ⌝ }

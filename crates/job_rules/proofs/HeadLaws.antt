@@ -54,7 +54,7 @@ module _ (s : List ℕ) (j : Job) where
         kinds = inside 1 15 (j .kinds) (to-worlds .1);
         results = inside 1 8 (j .results) (to-kinds .1);
         states = inside 0 64 (j .states) (to-results .1) .1;
-        first = inside 0 (j .states) (j .first .0) (to-states .1) .1
+        first = inside 0 (j .states) (j .first .0) (to-states .1) .1;
       }
 
   record PartsInside : Type 0 where
@@ -76,7 +76,7 @@ module _ (s : List ℕ) (j : Job) where
         cells = placed (length s) (endOf (j .marks)) (j .cells) (to-cells .1);
         starts = placed (length s) (endOf (j .cells)) (j .starts) (to-starts .1);
         goal = placed (length s) (endOf (j .starts)) (j .goal) (to-goal .1);
-        plan = placed (length s) (endOf (j .goal)) (j .plan) (to-plan .1)
+        plan = placed (length s) (endOf (j .goal)) (j .plan) (to-plan .1);
       }
 
   record LengthsRight : Type 0 where
@@ -98,7 +98,7 @@ module _ (s : List ℕ) (j : Job) where
         cells = same (j .cells .length) (cellsLength j) (to-cells .1);
         starts = same (j .starts .length) (startsLength j) (to-starts .1);
         goal = same (j .goal .length) (goalLength j) (to-goal .1);
-        plan = same (j .plan .length) (planLength j) (to-plan .1)
+        plan = same (j .plan .length) (planLength j) (to-plan .1);
       }
 
   pub laid : numberWrong s j ≡ false → pairWrong s j ≡ false → lengthWrong j ≡ false → Laid s j
@@ -117,5 +117,5 @@ module _ (s : List ℕ) (j : Job) where
         cells-in = rw (l .cells) at (p .cells);
         starts-in = rw (l .starts) at (p .starts);
         goal-in = rw (l .goal) at (p .goal);
-        plan-in = rw (l .plan) at (p .plan)
+        plan-in = rw (l .plan) at (p .plan);
       }

@@ -1,13 +1,15 @@
 // Refusals 2, 3 and 4: the numbers of the head, the places of the parts and their lengths.
+//
+// These functions are for the reader in the crate above and not for users: each asks for what the refusals before it have found.
 ghost use mathlib.Core.Path.{_≡_};
 ghost use Prim.Native.Nat.{_≤_};
 ghost use lib.ListN.{length};
 ghost use Rattle.job_rules.specs.Rules.{outside, numberWrong, endOf, misplaced, pairWrong, differs, lengthWrong};
+use job_layout::Job;
+use job_layout::Part;
 use job_layout::places::cell_count;
 use job_layout::places::goal_count;
 use job_layout::places::plan_length;
-use job_layout::Job;
-use job_layout::Part;
 
 fn is_outside(low: u8, high: u8, n: u8) -> bool
     ensures { λ r. ⌜ r ≡ outside low high n ⌝ }

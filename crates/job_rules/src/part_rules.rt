@@ -1,17 +1,19 @@
-// Refusals 5 to 11: the bytes of the parts. Each function asks that the parts lie in the file, which refusals 1 to 4 have made
-// sure of.
+// Refusals 5 to 11: the bytes of the parts.
+//
+// These functions are for the reader in the crate above and not for users: each asks that the parts lie in the file, which
+// refusals 1 to 4 have made sure of.
 ghost use mathlib.Core.Path.{_≡_};
 ghost use Prim.Native.Nat.{_+_, _*_, _≤_, _<_};
 ghost use lib.ListN.{length};
 ghost use Rattle.lamp_line.specs.Refusals.{some-below};
 ghost use Rattle.job_layout.specs.Laid.{Laid};
 ghost use Rattle.job_rules.specs.Rules.{notBit, markWrong, goalWrong, isSet, startWrong, cellWrongIn, cellWrongAt, cellWrong, legalAtEnd, movesOnAtEnd, endWrong, actionWrong, targetWrongAt, rowWrong, targetWrong};
+use job_layout::Job;
 use job_layout::places::action_place;
 use job_layout::places::cell_count;
 use job_layout::places::goal_count;
 use job_layout::places::mark_place;
 use job_layout::places::next_place;
-use job_layout::Job;
 use lamp_line::ProgramState;
 use lamp_line::WorldState;
 
@@ -98,7 +100,13 @@ pub fn cell_wrong(file: &[u8], job: Job) -> bool
     ensures { λ r. ⌜ r ≡ cellWrong (now (file .entry)) job ⌝ }
 {
     let cells = job.cells;
-    any_cell_wrong(file, cells.offset as usize, cell_count(job) as usize, job.worlds, job.results)
+    any_cell_wrong(
+        file,
+        cells.offset as usize,
+        cell_count(job) as usize,
+        job.worlds,
+        job.results,
+    )
 }
 
 // The action is legal in column 0 in some world state.

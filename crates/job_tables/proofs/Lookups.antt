@@ -29,7 +29,7 @@ module _ (s : List ℕ) (j : Job) (opened : Opened s j) where
   mark-in = bounds.mark-in s j (sound s j opened .laid)
 
   pub result-in : (a : Action) (w : WorldState) (c : ℕ) → a < j .actions → w .0 < j .worlds → c < columns (j .kinds) →
-    resultPlace j a w c < length s
+      resultPlace j a w c < length s
   result-in = bounds.result-in s j (sound s j opened .laid)
 
   pub start-in : (w : WorldState) → w .0 < j .worlds → startPlace j w < length s
@@ -59,7 +59,7 @@ module _ (s : List ℕ) (j : Job) (opened : Opened s j) where
     cell-not-legal e = sym (rw (eq-eqb _ _ e)) ∙ cell-is
 
     pub cell-legal : (byte s (resultPlace j a w c) ≡ 255 → ⊥) →
-      outcome (worldState (byte s (nextPlace j a w c))) (byte s (resultPlace j a w c)) ∷ [] ≡ tablesOf s .cell a w c
+        outcome (worldState (byte s (nextPlace j a w c))) (byte s (resultPlace j a w c)) ∷ [] ≡ tablesOf s .cell a w c
     cell-legal e = sym (rw (ne-eqb _ _ e)) ∙ cell-is
 
   pub start-is : (w : WorldState) → w .0 < j .worlds → eqb (byte s (startPlace j w)) 1 ≡ tablesOf s .start w
@@ -69,7 +69,7 @@ module _ (s : List ℕ) (j : Job) (opened : Opened s j) where
   no-start w out = subst (λ (t : Tables). false ≡ t .start w) by-head (rw (le-ltb _ _ out))
 
   pub goal-is : (w : WorldState) (c : ℕ) → w .0 < j .worlds → c < columns (j .kinds) →
-    eqb (byte s (goalPlace j w c)) 1 ≡ tablesOf s .goal w c
+      eqb (byte s (goalPlace j w c)) 1 ≡ tablesOf s .goal w c
   goal-is w c w< c< =
       subst (λ (t : Tables). eqb (byte s (goalPlace j w c)) 1 ≡ t .goal w c) by-head (rw (lt-ltb _ _ w<, lt-ltb _ _ c<))
 
@@ -85,5 +85,5 @@ module _ (s : List ℕ) (j : Job) (opened : Opened s j) where
     no-target e = sym (rw (eq-eqb _ _ e)) ∙ target-is
 
     pub some-target : (byte s (targetPlace j q r) ≡ 255 → ⊥) →
-      some (programState (byte s (targetPlace j q r))) ≡ tablesOf s .target q r
+        some (programState (byte s (targetPlace j q r))) ≡ tablesOf s .target q r
     some-target e = sym (rw (ne-eqb _ _ e)) ∙ target-is

@@ -8,12 +8,12 @@ ghost use Rattle.lamp_line.specs.Tables.{movesOn, columns};
 ghost use Rattle.job_layout.specs.JobTables.{tablesOf};
 ghost use Rattle.job_file.specs.Reading.{Opened};
 ghost use Rattle.job_tables.specs.Entries.{outcomesOf, targetOf};
+use job_layout::Job;
 use job_layout::places::action_place;
 use job_layout::places::goal_place;
 use job_layout::places::mark_place;
 use job_layout::places::next_place;
 use job_layout::places::start_place;
-use job_layout::Job;
 use lamp_line::ProgramState;
 use lamp_line::WorldState;
 

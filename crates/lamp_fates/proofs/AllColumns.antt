@@ -33,29 +33,34 @@ length-from table a = rw (take-all (length table - a) (drop a table) (omega (ari
 
 -- The part from column c on was lent, and has come back with that column filled.
 pub fates-more :
-  (t : Tables) (c : ℕ) (table part : List ℕ) → WellFormed t → c * 4160 + 4160 ≤ length table →
-  length part ≡ length table - c * 4160 → FatesBelow t c table → ColumnFates t c part →
-  FatesBelow t (c + 1) (take (c * 4160) table ++ (part ++ drop (length table - c * 4160) (drop (c * 4160) table)))
+    (t : Tables) (c : ℕ) (table part : List ℕ) → WellFormed t → c * 4160 + 4160 ≤ length table →
+    length part ≡ length table - c * 4160 → FatesBelow t c table → ColumnFates t c part →
+    FatesBelow t (c + 1) (take (c * 4160) table ++ (part ++ drop (length table - c * 4160) (drop (c * 4160) table)))
 unfolding FatesBelow ColumnFates
 fates-more t c table part wf l e fates fresh q w column q≤ w< h = go (decLt column c)
   where
     front : List ℕ
     front = take (c * 4160) table
+
     back : List ℕ
     back = drop (length table - c * 4160) (drop (c * 4160) table)
+
     front-length : length (take (c * 4160) table) ≡ c * 4160
     front-length = length-take-le (c * 4160) table (omega arith)
+
     small : q * 64 + w < 4160
     small = omega (arith, wf .states-range, wf .worlds-range .1)
+
     in-part : getD (front ++ (part ++ back)) (c * 4160 + (q * 64 + w)) 0 ≡ getD part (q * 64 + w) 0
     in-part =
         ap (λ (a : ℕ). getD (front ++ (part ++ back)) (a + (q * 64 + w)) 0) (sym front-length)
         ∙ getD-append-add front (part ++ back) (q * 64 + w) 0
         ∙ List·getD-append part back 0 (q * 64 + w) (omega arith)
+
     go :
-      Dec (column < c) →
-      getD (front ++ (part ++ back)) (fatePlace q w column) 0
-      ≡ fateEntry (lampWalk t (pair (programState q) (worldState w)) column)
+        Dec (column < c) →
+        getD (front ++ (part ++ back)) (fatePlace q w column) 0
+        ≡ fateEntry (lampWalk t (pair (programState q) (worldState w)) column)
     go (yes b) =
         List·getD-append front (part ++ back) 0 (fatePlace q w column) (omega (arith, front-length))
         ∙ getD-take (c * 4160) table (fatePlace q w column) 0 (omega arith)
@@ -64,5 +69,5 @@ fates-more t c table part wf l e fates fresh q w column q≤ w< h = go (decLt co
         let same : column ≡ c = omega arith in
         subst
         (λ (k : ℕ).
-          getD (front ++ (part ++ back)) (fatePlace q w k) 0 ≡ fateEntry (lampWalk t (pair (programState q) (worldState w)) k))
+        getD (front ++ (part ++ back)) (fatePlace q w k) 0 ≡ fateEntry (lampWalk t (pair (programState q) (worldState w)) k))
         (sym same) (in-part ∙ fresh q w q≤ w<)

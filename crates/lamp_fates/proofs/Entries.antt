@@ -63,7 +63,7 @@ pair-at-place q w h =
 module _ (t : Tables) (c : ℕ) where
   -- The entry for one action.
   pub entry-of-action :
-    (i v : ℕ) (m : Move) → i % 64 < t .worlds → v ≡ moveEntry m → m ≡ act t (pairAt i) c → Entry t c 1 i v
+      (i v : ℕ) (m : Move) → i % 64 < t .worlds → v ≡ moveEntry m → m ≡ act t (pairAt i) c → Entry t c 1 i v
   entry-of-action i v m w e f = comes-to 1 w (omega arith) (e ∙ ap moveEntry (f ∙ sym (far-one t c (pairAt i))))
 
   -- An entry for twice as many actions is one for as many.
@@ -86,7 +86,7 @@ module _ (t : Tables) (wf : WellFormed t) where
 
     -- An entry that stays names a place of the column.
     pub stays-below :
-      (m i v : ℕ) → i < columnSize (t .states) → Entry t c m i v → 8192 ≤ v → v - 8192 < columnSize (t .states)
+        (m i v : ℕ) → i < columnSize (t .states) → Entry t c m i v → 8192 ≤ v → v - 8192 < columnSize (t .states)
     stays-below m i v h (nothing w e) l = absurd (omega arith)
     stays-below m i v h (comes-to k w a e) l =
         go (far t c k (pairAt i)) (far-in-range t wf c k (pairAt i) (pair-in-range i h w)) e
@@ -98,20 +98,21 @@ module _ (t : Tables) (wf : WellFormed t) where
 
     -- An entry that is followed to another for m actions stands for twice as many.
     pub entry-followed :
-      (m i v : ℕ) (table : List ℕ) → i < columnSize (t .states) → Entry t c m i v →
-      (8192 ≤ v → Entry t c m (v - 8192) (getD table (v - 8192) 0)) → Entry t c (m + m) i (followed table v)
+        (m i v : ℕ) (table : List ℕ) → i < columnSize (t .states) → Entry t c m i v →
+        (8192 ≤ v → Entry t c m (v - 8192) (getD table (v - 8192) 0)) → Entry t c (m + m) i (followed table v)
     entry-followed m i v table h (nothing w e) other = nothing w (followed-kept table v (omega arith) ∙ e)
     entry-followed m i v table h (comes-to k w a e) other =
         go (far t c k (pairAt i)) refl (far-in-range t wf c k (pairAt i) (pair-in-range i h w)) e
       where
         kept :
-          (y : Move) → v ≡ moveEntry y → far t c (k + m) (pairAt i) ≡ y → v < 8192 →
-          Entry t c (m + m) i (followed table v)
+            (y : Move) → v ≡ moveEntry y → far t c (k + m) (pairAt i) ≡ y → v < 8192 →
+            Entry t c (m + m) i (followed table v)
         kept y e f small =
             comes-to (k + m) w (omega arith) (followed-kept table v small ∙ e ∙ ap moveEntry (sym f))
+
         go :
-          (y : Move) → far t c k (pairAt i) ≡ y → LeadsInRange t y → v ≡ moveEntry y →
-          Entry t c (m + m) i (followed table v)
+            (y : Move) → far t c k (pairAt i) ≡ y → LeadsInRange t y → v ≡ moveEntry y →
+            Entry t c (m + m) i (followed table v)
         go (ends x) f range e =
             kept (ends x) e (far-joined t c k m (pairAt i) (ends x) f) (omega (arith, ending-small x))
         go (passes p) f range e =
@@ -123,6 +124,7 @@ module _ (t : Tables) (wf : WellFormed t) where
                 let place : v - 8192 ≡ placeOf p = omega arith in
                 ap pairAt place
                 ∙ pair-at-place (p .state .0) (p .world .0) (omega (arith, range .world-range, wf .worlds-range .1))
+
             joined : Entry t c m (v - 8192) (getD table (v - 8192) 0) → Entry t c (m + m) i (followed table v)
             joined (nothing w′ e′) =
                 absurd (omega (arith, ap (λ (p : Pair). p .world .0) there, range .world-range))
@@ -140,8 +142,8 @@ module _ (t : Tables) (wf : WellFormed t) where
 
     -- An entry for more than S·W actions settles as the fate of its pair.
     pub entry-settled :
-      (m i v : ℕ) → i < columnSize (t .states) → i % 64 < t .worlds → t .states * t .worlds < m → Entry t c m i v →
-      settledEntry v ≡ fateEntry (lampWalk t (pairAt i) c)
+        (m i v : ℕ) → i < columnSize (t .states) → i % 64 < t .worlds → t .states * t .worlds < m → Entry t c m i v →
+        settledEntry v ≡ fateEntry (lampWalk t (pairAt i) c)
     entry-settled m i v h w l (nothing w′ e) = absurd (omega arith)
     entry-settled m i v h w l (comes-to k w′ a e) =
         let range = pair-in-range i h w in

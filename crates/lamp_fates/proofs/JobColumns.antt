@@ -29,7 +29,7 @@ module _ (s : List ℕ) (j : Job) (opened : Opened s j) where
 
   -- All columns of the job are filled.
   pub job-fates :
-    (n : ℕ) (table : List ℕ) → n ≡ columns (j .kinds) → FatesBelow (tablesOf s) n table → HoldsFates (tablesOf s) table
+      (n : ℕ) (table : List ℕ) → n ≡ columns (j .kinds) → FatesBelow (tablesOf s) n table → HoldsFates (tablesOf s) table
   job-fates n table e = fates-all (tablesOf s) n table (e ∙ ap columns (kinds-are s j opened))
 
   module _ (c : ℕ) where
@@ -39,8 +39,8 @@ module _ (s : List ℕ) (j : Job) (opened : Opened s j) where
 
     -- The entry for one action, from what the action comes to.
     pub first-action :
-      (i v : ℕ) (m : Move) → i % 64 < j .worlds → v ≡ moveEntry m → m ≡ act (tablesOf s) (pairAt i) c →
-      Entry (tablesOf s) c 1 i v
+        (i v : ℕ) (m : Move) → i % 64 < j .worlds → v ≡ moveEntry m → m ≡ act (tablesOf s) (pairAt i) c →
+        Entry (tablesOf s) c 1 i v
     first-action i v m h = entry-of-action (tablesOf s) c i v m (subst (λ (w : ℕ). i % 64 < w) (worlds-are s j opened) h)
 
     module _ (n : ℕ) (size : n ≡ columnSize (j .states)) where
@@ -56,19 +56,19 @@ module _ (s : List ℕ) (j : Job) (opened : Opened s j) where
             column = c;
             actions = m;
             size = size-in-tables;
-            entries = entries
+            entries = entries;
           }
 
       -- After the round the entries stand for twice as many actions.
       pub round-reaches :
-        (m : ℕ) (before after : List ℕ) → Reaches (tablesOf s) c m n before → Doubled n n before after →
-        Reaches (tablesOf s) c (m + m) n after
+          (m : ℕ) (before after : List ℕ) → Reaches (tablesOf s) c m n before → Doubled n n before after →
+          Reaches (tablesOf s) c (m + m) n after
       round-reaches m before after = round-doubles (tablesOf s) c m n before after (well-formed s j opened) size-in-tables
 
       -- Entries for more than S·W actions, once settled, are the fates.
       pub column-filled :
-        (m : ℕ) (before after : List ℕ) → j .states * j .worlds < m → Reaches (tablesOf s) c m n before →
-        SettledTo n before after → ColumnFates (tablesOf s) c after
+          (m : ℕ) (before after : List ℕ) → j .states * j .worlds < m → Reaches (tablesOf s) c m n before →
+          SettledTo n before after → ColumnFates (tablesOf s) c after
       column-filled m before after h =
           column-settles (tablesOf s) c m n before after (well-formed s j opened) size-in-tables
           (subst (λ (most : ℕ). most < m) (ap₂ _*_ (states-are s j opened) (worlds-are s j opened)) h)

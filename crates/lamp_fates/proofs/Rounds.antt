@@ -15,8 +15,8 @@ use Rattle.lamp_fates.proofs.Entries.{pair-at-place, stays-below, entry
 
 -- What is known of each entry is known again once one of them is stored.
 stored :
-  (P : ℕ → ℕ → Type 0) (table : List ℕ) (i j v : ℕ) → i < length table → P i v →
-  (¬ (j ≡ i) → P j (getD table j 0)) → P j (getD (set table i v) j 0)
+    (P : ℕ → ℕ → Type 0) (table : List ℕ) (i j v : ℕ) → i < length table → P i v →
+    (¬ (j ≡ i) → P j (getD table j 0)) → P j (getD (set table i v) j 0)
 stored P table i j v h new old = go (ℕ-discrete j i)
   where
     go : Dec (j ≡ i) → P j (getD (set table i v) j 0)
@@ -34,8 +34,8 @@ reaches-none t c m table i h = absurd (omega arith)
 
 -- One entry more is stored.
 pub reaches-more :
-  (t : Tables) (c m i v : ℕ) (table : List ℕ) → i < length table → Reaches t c m i table → Entry t c m i v →
-  Reaches t c m (i + 1) (set table i v)
+    (t : Tables) (c m i v : ℕ) (table : List ℕ) → i < length table → Reaches t c m i table → Entry t c m i v →
+    Reaches t c m (i + 1) (set table i v)
 unfolding Reaches
 reaches-more t c m i v table h entries e j l = stored (Entry t c m) table i j v h e (λ d. entries j (omega arith))
 
@@ -48,28 +48,34 @@ round-starts n table t c m wf e entries = (entries, reaches-none t c (m + m) tab
 
 -- Within a round, an entry that stays does so at a place of the column.
 pub round-stays-below :
-  (n i : ℕ) (before table : List ℕ) → IsColumn n before → Doubled n i before table → i < n → n ≤ length table →
-  StaysBelow (length table) (getD table i 0)
+    (n i : ℕ) (before table : List ℕ) → IsColumn n before → Doubled n i before table → i < n → n ≤ length table →
+    StaysBelow (length table) (getD table i 0)
 unfolding Doubled Reaches StaysBelow
 round-stays-below n i before table col round h l s =
     let size = col .size in
     let entries = round (col .tables) (col .column) (col .actions) (col .well-formed) size (col .entries) .0 in
-    omega (arith, stays-below (col .tables) (col .well-formed) (col .column) (col .actions) i (getD table i 0)
-    (omega arith) (entries i h) s)
+    omega (
+      arith,
+      stays-below (col .tables) (col .well-formed) (col .column) (col .actions) i (getD table i 0)
+          (omega arith) (entries i h) s,
+    )
 
 -- A turn of the round: entry i is followed.
 pub round-turns :
-  (n i : ℕ) (before table : List ℕ) → i < n → n ≤ length table → Doubled n i before table →
-  Doubled n (i + 1) before (set table i (followed table (getD table i 0)))
+    (n i : ℕ) (before table : List ℕ) → i < n → n ≤ length table → Doubled n i before table →
+    Doubled n (i + 1) before (set table i (followed table (getD table i 0)))
 unfolding Doubled
-round-turns n i before table h l round t c m wf e entries =
-    (unfold Reaches in λ j k. stored (Entry t c m) table i j x (omega arith) (entry-weaker t c m i x twice) (λ d. now j k),
-    reaches-more t c (m + m) i x table (omega arith) (round t c m wf e entries .1) twice)
+round-turns n i before table h l round t c m wf e entries = (
+  unfold Reaches in λ j k. stored (Entry t c m) table i j x (omega arith) (entry-weaker t c m i x twice) (λ d. now j k),
+  reaches-more t c (m + m) i x table (omega arith) (round t c m wf e entries .1) twice,
+)
   where
     x : ℕ
     x = followed table (getD table i 0)
+
     now : (j : ℕ) → j < n → Entry t c m j (getD table j 0)
     now = unfold Reaches in round t c m wf e entries .0
+
     twice : Entry t c (m + m) i (followed table (getD table i 0))
     twice =
         let at : i < columnSize (t .states) = omega arith in
@@ -78,8 +84,8 @@ round-turns n i before table h l round t c m wf e entries =
 
 -- A whole round.
 pub round-doubles :
-  (t : Tables) (c m n : ℕ) (before after : List ℕ) → WellFormed t → n ≡ columnSize (t .states) →
-  Reaches t c m n before → Doubled n n before after → Reaches t c (m + m) n after
+    (t : Tables) (c m n : ℕ) (before after : List ℕ) → WellFormed t → n ≡ columnSize (t .states) →
+    Reaches t c m n before → Doubled n n before after → Reaches t c (m + m) n after
 unfolding Doubled
 round-doubles t c m n before after wf e entries round = round t c m wf e entries .1
 
@@ -92,8 +98,8 @@ settles-none table j = (λ h. absurd (omega arith), λ h. refl)
 
 -- One entry more is settled.
 pub settles-more :
-  (i : ℕ) (before table : List ℕ) → i < length table → SettledTo i before table →
-  SettledTo (i + 1) before (set table i (settledEntry (getD table i 0)))
+    (i : ℕ) (before table : List ℕ) → i < length table → SettledTo i before table →
+    SettledTo (i + 1) before (set table i (settledEntry (getD table i 0)))
 unfolding SettledTo
 settles-more i before table h s j =
     stored
@@ -104,8 +110,8 @@ settles-more i before table h s j =
 
 -- The column is finished.
 pub column-settles :
-  (t : Tables) (c m n : ℕ) (before after : List ℕ) → WellFormed t → n ≡ columnSize (t .states) →
-  t .states * t .worlds < m → Reaches t c m n before → SettledTo n before after → ColumnFates t c after
+    (t : Tables) (c m n : ℕ) (before after : List ℕ) → WellFormed t → n ≡ columnSize (t .states) →
+    t .states * t .worlds < m → Reaches t c m n before → SettledTo n before after → ColumnFates t c after
 unfolding ColumnFates Reaches SettledTo
 column-settles t c m n before after wf e l entries s q w q≤ w< =
     s i .0 (omega arith)
@@ -114,7 +120,9 @@ column-settles t c m n before after wf e l entries s q w q≤ w< =
   where
     i : ℕ
     i = q * 64 + w
+
     small : w < 64
     small = omega (arith, wf .worlds-range .1)
+
     below : i < columnSize (t .states)
     below = omega arith

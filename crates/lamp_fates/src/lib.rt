@@ -13,14 +13,14 @@ ghost use Rattle.lamp_walk.specs.WalkAnswers.{moveOf};
 ghost use Rattle.lamp_fates.specs.FateTable.{fatePlace, fateEntry, HoldsFates};
 ghost use Rattle.lamp_fates.specs.ColumnTable.{columnSize, moveEntry, Entry, Reaches, IsColumn, Doubled};
 ghost use Rattle.lamp_fates.specs.ColumnTable.{StaysBelow, followed, settledEntry, SettledTo, ColumnFates};
-use job_layout::places::column_count;
 use job_layout::Job;
+use job_layout::places::column_count;
 use lamp_line::Ending;
 use lamp_line::FailureKind;
 use lamp_line::ProgramState;
 use lamp_line::WorldState;
-use lamp_walk::one_action;
 use lamp_walk::Move;
+use lamp_walk::one_action;
 
 // The entry of a failure.
 fn kind_entry(kind: FailureKind) -> u16
@@ -79,7 +79,7 @@ fn first_entry(file: &[u8], job: Job, column: u8, i: usize) -> u16
 // The first n entries of a column for one action.
 fn first_entries(file: &[u8], job: Job, column: u8, table: &mut [u16], n: usize)
     requires { ⌜ Opened (now file) job × (column < columns (job .kinds))
-      × (n ≡ columnSize (job .states)) × (n ≤ length (now table)) ⌝ }
+        × (n ≡ columnSize (job .states)) × (n ≤ length (now table)) ⌝ }
     ensures { λ _. ⌜ Reaches (tablesOf (now (file .entry))) column 1 n (now (table .exit)) ⌝ }
 {
     let mut i = 0;

@@ -8,7 +8,7 @@ use Rattle.lamp_line.specs.Refusals.{Rule, _when_, refusal, answerBy}
 module _ {A : Type 0} (refused : ℕ → A) where
   -- A rule that applies gives its number; one that does not leaves the answer to the rules behind it.
   pub by-rule : (number : ℕ) (applies : Bool) (rules : List Rule) (answer : A) →
-    answerBy refused ((number when applies) ∷ rules) answer ≡ cond applies (refused number) (answerBy refused rules answer)
+      answerBy refused ((number when applies) ∷ rules) answer ≡ cond applies (refused number) (answerBy refused rules answer)
   unfolding answerBy refusal
   by-rule number true rules answer = refl
   by-rule number false rules answer = refl
@@ -20,7 +20,7 @@ module _ {A : Type 0} (refused : ℕ → A) where
 
   -- Of two lists of rules the first decides, or else the second.
   pub by-rules-before : (rules more : List Rule) (answer : A) →
-    answerBy refused (rules ++ more) answer ≡ answerBy refused rules (answerBy refused more answer)
+      answerBy refused (rules ++ more) answer ≡ answerBy refused rules (answerBy refused more answer)
   unfolding answerBy refusal
   by-rules-before [] more answer = refl
   by-rules-before ((number when true) ∷ rules) more answer = refl

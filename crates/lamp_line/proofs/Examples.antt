@@ -16,7 +16,7 @@ use Rattle.lamp_line.specs.Run.{Run, ran, within, stopped, ownSteps, act
 
 -- Two actions, of which action 1 moves on; one kind, two results; start 0, first state 0.
 abbrev small :
-  ℕ → ℕ → (Action → WorldState → ℕ → List Outcome) → (WorldState → ℕ → Bool) → (ProgramState → Result → Option ProgramState) → Tables
+    ℕ → ℕ → (Action → WorldState → ℕ → List Outcome) → (WorldState → ℕ → Bool) → (ProgramState → Result → Option ProgramState) → Tables
 small worlds states cell goal target =
     record {
       actions = 2;
@@ -30,7 +30,7 @@ small worlds states cell goal target =
       start = λ w. eqb (w .0) 0;
       goal = goal;
       action = λ q. q .0;
-      target = target
+      target = target;
     }
 
 abbrev runOn : Tables → List ℕ → Run
@@ -95,5 +95,5 @@ examples =
       circles = refl;
       step-not-counted = refl;
       ends-at-limit = refl;
-      stopped-below = refl
+      stopped-below = refl;
     }

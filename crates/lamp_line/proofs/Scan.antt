@@ -55,7 +55,7 @@ some-at p zero e = let z : false ≡ true = e in absurd (false≢true z)
 some-at p (suc n) e = at (p n) refl e (some-at p n)
   where
     at : (b : Bool) → p n ≡ b → (b || some-below n p) ≡ true →
-      (some-below n p ≡ true → (i : ℕ) × (i < n) × (p i ≡ true)) → (i : ℕ) × (i < suc n) × (p i ≡ true)
+        (some-below n p ≡ true → (i : ℕ) × (i < n) × (p i ≡ true)) → (i : ℕ) × (i < suc n) × (p i ≡ true)
     at true here e earlier = (n, omega arith, here)
     at false here e earlier = let found = earlier e in (found .0, omega (arith, found .1), found .2)
 

@@ -85,11 +85,11 @@ module _ (t : Tables) where
     all-reported : {m : Cabinet} → Reports m [] []
     asked : {m : Cabinet} {rs : List Result} {calls : List Call} → Reports m rs calls → Reports m rs (ask ∷ calls)
     besides :
-      {m : Cabinet} {r : Result} {number : ℕ} {rs : List Result} {calls : List Call} →
-      Refuses m r number → Reports m rs calls → Reports m rs (report r ∷ calls)
+        {m : Cabinet} {r : Result} {number : ℕ} {rs : List Result} {calls : List Call} →
+        Refuses m r number → Reports m rs calls → Reports m rs (report r ∷ calls)
     reported :
-      {m : Cabinet} {r : Result} {rs : List Result} {calls : List Call} →
-      Reports (stateAfter m (reply m (report r))) rs calls → Reports m (r ∷ rs) (report r ∷ calls)
+        {m : Cabinet} {r : Result} {rs : List Result} {calls : List Call} →
+        Reports (stateAfter m (reply m (report r))) rs calls → Reports m (r ∷ rs) (report r ∷ calls)
 
   -- The answers that such a list is owed while the execution still has these steps to make: "every action call answers the
   -- action of the execution's next step, or Ended after its last; every refused report answers its number and the old state";
@@ -97,14 +97,14 @@ module _ (t : Tables) where
   pub data Owed : Cabinet → List Label → List Call → List Reply → Type 0 where
     no-more : {m : Cabinet} → Owed m [] [] []
     next-action :
-      {m : Cabinet} {a : Action} {r : Result} {ls : List Label} {calls : List Call} {answers : List Reply} →
-      Owed m (did a r ∷ ls) calls answers → Owed m (did a r ∷ ls) (ask ∷ calls) (act a ∷ answers)
+        {m : Cabinet} {a : Action} {r : Result} {ls : List Label} {calls : List Call} {answers : List Reply} →
+        Owed m (did a r ∷ ls) calls answers → Owed m (did a r ∷ ls) (ask ∷ calls) (act a ∷ answers)
     after-last :
-      {m : Cabinet} {calls : List Call} {answers : List Reply} →
-      Owed m [] calls answers → Owed m [] (ask ∷ calls) (ended ∷ answers)
+        {m : Cabinet} {calls : List Call} {answers : List Reply} →
+        Owed m [] calls answers → Owed m [] (ask ∷ calls) (ended ∷ answers)
     old-state :
-      {m : Cabinet} {r : Result} {number : ℕ} {ls : List Label} {calls : List Call} {answers : List Reply} →
-      Refuses m r number → Owed m ls calls answers → Owed m ls (report r ∷ calls) (refused number m ∷ answers)
+        {m : Cabinet} {r : Result} {number : ℕ} {ls : List Label} {calls : List Call} {answers : List Reply} →
+        Refuses m r number → Owed m ls calls answers → Owed m ls (report r ∷ calls) (refused number m ∷ answers)
     step-taken :
-      {m m′ : Cabinet} {a : Action} {r : Result} {ls : List Label} {calls : List Call} {answers : List Reply} →
-      Owed m′ ls calls answers → Owed m (did a r ∷ ls) (report r ∷ calls) (taken m′ ∷ answers)
+        {m m′ : Cabinet} {a : Action} {r : Result} {ls : List Label} {calls : List Call} {answers : List Reply} →
+        Owed m′ ls calls answers → Owed m (did a r ∷ ls) (report r ∷ calls) (taken m′ ∷ answers)

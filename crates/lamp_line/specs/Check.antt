@@ -39,8 +39,8 @@ module _ (t : Tables) where
   pub record Counterexample (kind : FailureKind) (start : WorldState) (line : Line) : Type 0 where
     pub fails : Fails kind start line
     pub first :
-      (kind′ : FailureKind) (start′ : WorldState) (line′ : Line) → Fails kind′ start′ line′ →
-      rank start line ≼ rank start′ line′
+        (kind′ : FailureKind) (start′ : WorldState) (line′ : Line) → Fails kind′ start′ line′ →
+        rank start line ≼ rank start′ line′
     pub short : length (line .lamps) ≤ t .states * t .worlds + 1
 
   -- The steps have come to a lamp or to the line's end: there is none, or the last of them moves on.
@@ -58,7 +58,7 @@ module _ (t : Tables) where
     pub rest : Line
     pub arrives : Arrival labels
     pub execution :
-      T* (lampTheory t) (planOf t) labels (t .first) (situation start line) (p .state) (situation (p .world) rest)
+        T* (lampTheory t) (planOf t) labels (t .first) (situation start line) (p .state) (situation (p .world) rest)
 
   -- What Accepted with a count says: the plan is correct in the sense of 001, Definition 5, for every marked start and every line
   -- of every length, and the count is the number of pairs reached.

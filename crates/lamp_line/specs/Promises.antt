@@ -50,8 +50,8 @@ module _ (t : Tables) where
     pub execution : Execution start line labels state at
     pub arrives : Arrival t labels
     pub passes-none :
-      (ms : List Label) (q : ProgramState) (s : Situation) →
-      T* (lampTheory t) (planOf t) ms state at q s → s .rest ≡ at .rest
+        (ms : List Label) (q : ProgramState) (s : Situation) →
+        T* (lampTheory t) (planOf t) ms state at q s → s .rest ≡ at .rest
     pub forever : Forever (lampTheory t) (planOf t) state at
     pub count : k ≡ length labels + t .states * t .worlds
 
@@ -113,11 +113,11 @@ module _ (t : Tables) where
     pub execution : Execution start line labels (final t) last
     pub goal : lampProblem t .Goal last
     pub answers :
-      (calls : List Call) → Reports t (begin t (length (line .lamps))) (map resultOf labels) calls →
-      Owed t (begin t (length (line .lamps))) labels calls (replies t (begin t (length (line .lamps))) calls)
+        (calls : List Call) → Reports t (begin t (length (line .lamps))) (map resultOf labels) calls →
+        Owed t (begin t (length (line .lamps))) labels calls (replies t (begin t (length (line .lamps))) calls)
     pub leaves :
-      (calls : List Call) → Reports t (begin t (length (line .lamps))) (map resultOf labels) calls →
-      left t (begin t (length (line .lamps))) calls ≡ record { state = final t; lamps = length (last .rest .lamps) }
+        (calls : List Call) → Reports t (begin t (length (line .lamps))) (map resultOf labels) calls →
+        left t (begin t (length (line .lamps))) calls ≡ record { state = final t; lamps = length (last .rest .lamps) }
 
   -- "After an accepted plan, take any line of up to 65,535 lamps, whatever its kinds, and any marked start, and begin a cabinet
   -- with that line's count."

@@ -92,9 +92,9 @@ module _ (t : Tables) where
   walk zero p column = ended (cond (isFinal (p .state)) (judged (p .world) column) (Failure Circles)) 0
   walk (suc n) p column =
       elim (act p column) [
-        ends x ↦ ended x (ownSteps x)
-      | stays p′ ↦ oneMore (walk n p′ column)
-      | passes p′ ↦ arrived p′ 1
+        | ends x ↦ ended x (ownSteps x)
+        | stays p′ ↦ oneMore (walk n p′ column)
+        | passes p′ ↦ arrived p′ 1
       ]
 
   -- The one-lamp walk: from a pair just arrived at a lamp, or at the line's end, of this column.
@@ -106,8 +106,8 @@ module _ (t : Tables) where
   along end [] p = atEnd (lampWalk p end)
   along end (kind ∷ lamps) p =
       elim (lampWalk p (lampColumn t kind)) [
-        ended x k ↦ ran x k
-      | arrived p′ k ↦ after k (along end lamps p′)
+        | ended x k ↦ ran x k
+        | arrived p′ k ↦ after k (along end lamps p′)
       ]
 
   -- "Begin at the first program state, a marked start and a line."

@@ -112,7 +112,7 @@ lampTheory t =
     record {
       Situation = Situation;
       Does = λ a s r s′.
-        (outcome (s′ .world) r ∈ t .cell a (s .world) (column t (s .rest))) × (s′ .rest ≡ restAfter t a (s .rest))
+          (outcome (s′ .world) r ∈ t .cell a (s .world) (column t (s .rest))) × (s′ .rest ≡ restAfter t a (s .rest));
     }
 
 -- Begin at "a marked start and a line"; "the goal is true where its cell for the world and column is 1".
@@ -121,7 +121,7 @@ lampProblem t =
     record {
       theory = lampTheory t;
       First = λ s. (t .start (s .world) ≡ true) × Fits t (s .rest);
-      Goal = λ s. t .goal (s .world) (column t (s .rest)) ≡ true
+      Goal = λ s. t .goal (s .world) (column t (s .rest)) ≡ true;
     }
 
 abbrev pub planOf : Tables → Plan
@@ -131,7 +131,7 @@ planOf t =
       initial = t .first;
       final = final t;
       γ = t .action;
-      δ = t .target
+      δ = t .target;
     }
 
 -- ---- what is known of the tables of a job file that is not refused

@@ -5,6 +5,7 @@ ghost use Prim.Native.Nat.{_*_};
 // A program state and a world state are two sorts of number (01, "The line and its tables"). A value of one sort does not pass
 // for a value of the other, and each becomes a place in a table by one function only.
 pub struct ProgramState(pub u8);
+
 pub struct WorldState(pub u8);
 
 fn row_start(number: u8, width: u16) -> usize

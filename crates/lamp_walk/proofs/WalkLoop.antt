@@ -40,7 +40,7 @@ module _ (s : List ℕ) (j : Job) (opened : Opened s j) where
   in-tables p q≤ w< =
       record {
         state-range = subst (λ (n : ℕ). p .state .0 ≤ n) (states-are s j opened) q≤;
-        world-range = subst (λ (n : ℕ). p .world .0 < n) (worlds-are s j opened) w<
+        world-range = subst (λ (n : ℕ). p .world .0 < n) (worlds-are s j opened) w<;
       }
 
   pub state-within : (p : Pair) → InRange (tablesOf s) p → p .state .0 ≤ j .states
@@ -66,22 +66,22 @@ module _ (s : List ℕ) (j : Job) (opened : Opened s j) where
 
     module _ (k : ℕ) (p : Pair) (walking : Walking s (j .states * j .worlds) c p₀ k p) where
       pub walking-stays : k < j .states * j .worlds → (p′ : Pair) → stays p′ ≡ act (tablesOf s) p c →
-        Walking s (j .states * j .worlds) c p₀ (k + 1) p′
+          Walking s (j .states * j .worlds) c p₀ (k + 1) p′
       walking-stays k< p′ e =
           record {
             within = omega arith;
             in-range = stays-in-range (tablesOf s) (well-formed s j opened) p p′ c e;
-            owes = walk-owes-stays (tablesOf s) _ c p₀ k p (walking .owes) k< p′ e
+            owes = walk-owes-stays (tablesOf s) _ c p₀ k p (walking .owes) k< p′ e;
           }
 
       pub walking-ends : k < j .states * j .worlds → (x : Ending) → ends x ≡ act (tablesOf s) p c →
-        ended x (k + ownSteps x) ≡ lampWalk (tablesOf s) p₀ c
+          ended x (k + ownSteps x) ≡ lampWalk (tablesOf s) p₀ c
       walking-ends k< x e = whole-walk (walk-owes-ends (tablesOf s) _ c p₀ k p (walking .owes) k< x e)
 
       pub walking-passes : k < j .states * j .worlds → (p′ : Pair) → passes p′ ≡ act (tablesOf s) p c →
-        arrived p′ (k + 1) ≡ lampWalk (tablesOf s) p₀ c
+          arrived p′ (k + 1) ≡ lampWalk (tablesOf s) p₀ c
       walking-passes k< p′ e = whole-walk (walk-owes-passes (tablesOf s) _ c p₀ k p (walking .owes) k< p′ e)
 
       pub walking-spent : j .states * j .worlds ≤ k →
-        ended (spentEnding (tablesOf s) (p .state) (p .world) c) k ≡ lampWalk (tablesOf s) p₀ c
+          ended (spentEnding (tablesOf s) (p .state) (p .world) c) k ≡ lampWalk (tablesOf s) p₀ c
       walking-spent n≤ = whole-walk (walk-owes-spent (tablesOf s) _ c p₀ k p (walking .owes) n≤)

@@ -29,8 +29,8 @@ module _ (s : List ℕ) (q : ProgramState) (w : WorldState) (c : ℕ) where
 
   -- With a file that is not refused the three rules of the walk decide.
   pub walk-by-rules : (j : Job) → Opened s j →
-    walkAnswer s q w c
-    ≡ refusedIf (leb (j .worlds) (w .0)) 14
+      walkAnswer s q w c
+      ≡ refusedIf (leb (j .worlds) (w .0)) 14
       (refusedIf (leb (columns (j .kinds)) c) 15
       (refusedIf (ltb (j .states) (q .0)) 16
       (answerOf (lampWalk (tablesOf s) (pair q w) c))))

@@ -7,18 +7,18 @@ ghost use Rattle.lamp_line.specs.Run.{judged, pair, ownSteps, act, lampWalk};
 ghost use Rattle.job_layout.specs.JobTables.{tablesOf};
 ghost use Rattle.job_file.specs.Reading.{Opened};
 ghost use Rattle.lamp_walk.specs.WalkAnswers.{moveOf, spentEnding, walkOf, answerOf, walkAnswer};
+use job_file::Reading;
 use job_file::read_job;
 use job_file::refusal_number;
-use job_file::Reading;
-use job_layout::places::column_count;
 use job_layout::Job;
+use job_layout::places::column_count;
+use job_tables::Cell;
+use job_tables::Target;
 use job_tables::is_goal;
 use job_tables::moves_on;
 use job_tables::plan_action;
 use job_tables::plan_target;
 use job_tables::read_cell;
-use job_tables::Cell;
-use job_tables::Target;
 use lamp_line::Ending;
 use lamp_line::FailureKind;
 use lamp_line::ProgramState;
@@ -105,7 +105,13 @@ fn counted(ending: Ending, made: u32) -> u32
 
 // The walk in a file that is not refused. It is for the crates above and not for users: it asks for the job that the reader
 // answered for this file, and for numbers within the tables.
-pub fn walk_open(file: &[u8], job: Job, state: ProgramState, world: WorldState, column: u8) -> Walked
+pub fn walk_open(
+    file: &[u8],
+    job: Job,
+    state: ProgramState,
+    world: WorldState,
+    column: u8,
+) -> Walked
     requires { ⌜ Opened (now file) job × (state .0 ≤ job .states) × (world .0 < job .worlds) × (column < columns (job .kinds)) ⌝ }
     ensures { λ r. ⌜ walkOf r ≡ lampWalk (tablesOf (now (file .entry))) (pair state world) column ⌝ }
 {

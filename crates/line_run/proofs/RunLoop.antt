@@ -86,24 +86,23 @@ module _ (s : List ℕ) (j : Job) (opened : Opened s j) (limit : ℕ) (lamps₀ 
   whole-run = ap (λ q. along (tablesOf s) 0 lamps₀ (pair q start)) (first-is s j opened)
 
   pub running-start : tablesOf s .start start ≡ true → Kinds (j .kinds) lamps₀ →
-    Running s j limit lamps₀ (pair (j .first) start) 0 lamps₀ (pair (j .first) start)
+      Running s j limit lamps₀ (pair (j .first) start) 0 lamps₀ (pair (j .first) start)
   running-start marked kinds =
       record {
         within = omega arith;
         in-range =
-          record {
-            state-range = rw (first-is s j opened) (well-formed s j opened .first-range);
-            world-range = well-formed s j opened .start-range start marked
-          };
+            record {
+              state-range = rw (first-is s j opened) (well-formed s j opened .first-range);
+              world-range = well-formed s j opened .start-range start marked;
+            };
         kinds = kinds;
-        owes = run-owes-start (tablesOf s) 0 lamps₀ (pair (j .first) start)
+        owes = run-owes-start (tablesOf s) 0 lamps₀ (pair (j .first) start);
       }
 
   module _ (k : ℕ) (rest : List ℕ) (p : Pair) (running : Running s j limit lamps₀ (pair (j .first) start) k rest p) (c : ℕ)
-    (is-column : IsColumn c rest) where
-
+      (is-column : IsColumn c rest) where
     pub running-ends : (x : Ending) (n : ℕ) → ended x n ≡ lampWalk (tablesOf s) p c →
-      ran x (k + n) ≡ run (tablesOf s) start (lineOf lamps₀)
+        ran x (k + n) ≡ run (tablesOf s) start (lineOf lamps₀)
     running-ends x n e =
         run-owes-ends (tablesOf s) 0 lamps₀ _ k rest p (running .owes) x n (e ∙ ap (lampWalk (tablesOf s) p) (is-column (tablesOf s)))
         ∙ whole-run
@@ -121,14 +120,14 @@ module _ (s : List ℕ) (j : Job) (opened : Opened s j) (limit : ℕ) (lamps₀ 
       owes-on = run-owes-passes (tablesOf s) 0 lamps₀ _ k rest p (running .owes) running-at-lamp p′ n at-column
 
       pub running-passes : k + n ≤ limit →
-        Running s j limit lamps₀ (pair (j .first) start) (k + n) (take (length rest - 1) (drop 1 rest)) p′
+          Running s j limit lamps₀ (pair (j .first) start) (k + n) (take (length rest - 1) (drop 1 rest)) p′
       running-passes within =
           rw (part-behind rest)
           (record {
             within = within;
             in-range = arrived-in-range (tablesOf s) (well-formed s j opened) _ p p′ c n e;
             kinds = behind-kinds (j .kinds) rest (running .kinds);
-            owes = owes-on
+            owes = owes-on;
           })
 
       pub running-stopped : limit < k + n → stopped limit ≡ limited limit (run (tablesOf s) start (lineOf lamps₀))

@@ -42,8 +42,8 @@ module _ (s : List ℕ) (start : WorldState) (lamps : List ℕ) (limit : ℕ) wh
 
   -- With a file that is not refused the two rules of the run decide.
   pub run-by-rules : (j : Job) → Opened s j →
-    runAnswer s start lamps limit
-    ≡ refusedIf (not (tablesOf s .start start)) 14
+      runAnswer s start lamps limit
+      ≡ refusedIf (not (tablesOf s .start start)) 14
       (refusedIf (lineWrong (j .kinds) lamps) 15
       (answerOf (limited limit (run (tablesOf s) start (lineOf lamps)))))
   unfolding runAnswer

@@ -11,15 +11,15 @@ ghost use Rattle.job_rules.specs.Rules.{outside};
 ghost use Rattle.job_file.specs.Reading.{Opened};
 ghost use Rattle.job_file.specs.Operations.{lineWrong};
 ghost use Rattle.line_run.specs.RunAnswers.{lineOf, IsColumn, answerOf, runAnswer};
+use job_file::Reading;
 use job_file::read_job;
 use job_file::refusal_number;
-use job_file::Reading;
 use job_layout::Job;
 use job_tables::is_start;
 use lamp_line::Ending;
 use lamp_line::WorldState;
-use lamp_walk::walk_open;
 use lamp_walk::Walked;
+use lamp_walk::walk_open;
 
 // What a run answers. Its steps are those that it counted.
 pub enum RunAnswer {

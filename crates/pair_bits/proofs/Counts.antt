@@ -26,8 +26,12 @@ ones-bit (suc (suc b)) h = absurd (omega arith)
 ones-more : (w m : ℕ) → ones (w % 2 ^ suc m) ≡ ones (w % 2 ^ m) + w / 2 ^ m % 2
 ones-more w m =
     let e : suc m ≡ 1 + m = omega arith in
-    rw (e, mod-pow-add w 1 m, ones-cat m (w / 2 ^ m % 2 ^ 1) (w % 2 ^ m) (mod-lt w (pow-pos m)),
-    ones-bit (w / 2 ^ m % 2) (omega arith))
+    rw (
+      e,
+      mod-pow-add w 1 m,
+      ones-cat m (w / 2 ^ m % 2 ^ 1) (w % 2 ^ m) (mod-lt w (pow-pos m)),
+      ones-bit (w / 2 ^ m % 2) (omega arith),
+    )
     (omega arith)
 
 bit-in-word : (ws : List ℕ) (j m : ℕ) → m < 64 → bitOf ws (j * 64 + m) ≡ getD ws j 0 / 2 ^ m % 2
@@ -36,7 +40,7 @@ bit-in-word ws j m h = rw (digits-div j {m = 64} h, digits-mod j {m = 64} h)
 
 -- The first m bits of word j.
 count-block :
-  (ws : List ℕ) (j m : ℕ) → m ≤ 64 → countTo ws (j * 64 + m) ≡ countTo ws (j * 64) + ones (getD ws j 0 % 2 ^ m)
+    (ws : List ℕ) (j m : ℕ) → m ≤ 64 → countTo ws (j * 64 + m) ≡ countTo ws (j * 64) + ones (getD ws j 0 % 2 ^ m)
 unfolding countTo ones
 count-block ws j zero h =
     let e : j * 64 + 0 ≡ j * 64 = omega arith in
@@ -48,15 +52,15 @@ count-block ws j (suc m) h =
 
 -- A whole word.
 pub count-word :
-  (ws : List ℕ) (j : ℕ) → getD ws j 0 < 2 ^ 64 → countTo ws ((j + 1) * 64) ≡ countTo ws (j * 64) + ones (getD ws j 0)
+    (ws : List ℕ) (j : ℕ) → getD ws j 0 < 2 ^ 64 → countTo ws ((j + 1) * 64) ≡ countTo ws (j * 64) + ones (getD ws j 0)
 count-word ws j h =
     let e : (j + 1) * 64 ≡ j * 64 + 64 = omega arith in
     rw e (count-block ws j 64 (omega arith) ∙ rw (mod-eq-of-lt h))
 
 -- The last word, without what lies behind the n bits.
 pub count-rest :
-  (ws : List ℕ) (n i sum : ℕ) → i ≡ n / 64 → sum ≡ countTo ws (i * 64) →
-  sum + ones (getD ws (n / 64) 0 % (1 * 2 ^ (n % 64) % 2 ^ 64)) ≡ countTo ws n
+    (ws : List ℕ) (n i sum : ℕ) → i ≡ n / 64 → sum ≡ countTo ws (i * 64) →
+    sum + ones (getD ws (n / 64) 0 % (1 * 2 ^ (n % 64) % 2 ^ 64)) ≡ countTo ws n
 count-rest ws n i sum e h =
     let k : n / 64 * 64 + n % 64 ≡ n = omega arith in
     rw (shifted (n % 64) (omega arith), h, e) (sym (count-block ws (n / 64) (n % 64) (omega arith)) ∙ rw k)
@@ -99,21 +103,25 @@ count-cleared ws (suc n) cleared =
 
 -- A bit that was not set adds one.
 pub count-one :
-  (ws vs : List ℕ) (i n : ℕ) → i < n → bitAt ws i ≡ false → OnlySet ws vs i → countTo vs n ≡ countTo ws n + 1
+    (ws vs : List ℕ) (i n : ℕ) → i < n → bitAt ws i ≡ false → OnlySet ws vs i → countTo vs n ≡ countTo ws n + 1
 unfolding countTo
 count-one ws vs i zero l new only = absurd (omega arith)
 count-one ws vs i (suc n) l new only =
     ⊎-elim
     (λ h.
-      let same : bitOf vs n ≡ bitOf ws n = same-bit ws vs n (bitAt ws n) (only .others n (λ e. omega arith)) refl in
-      omega (arith, count-one ws vs i n h new only))
+    let same : bitOf vs n ≡ bitOf ws n = same-bit ws vs n (bitAt ws n) (only .others n (λ e. omega arith)) refl in
+    omega (arith, count-one ws vs i n h new only))
     last (below-or-not i n)
   where
     last : n ≤ i → countTo vs n + bitOf vs n ≡ countTo ws n + bitOf ws n + 1
     last h =
         let e : i ≡ n = omega arith in
-        omega (arith, count-same ws vs n (λ k m. only .others k (λ f. omega arith)), rw e at (bit-zero ws i new),
-        rw e at (bit-one vs i (only .now-set)))
+        omega (
+          arith,
+          count-same ws vs n (λ k m. only .others k (λ f. omega arith)),
+          rw e at (bit-zero ws i new),
+          rw e at (bit-one vs i (only .now-set)),
+        )
 
 -- While a bit is not set, there are fewer ones than bits.
 pub count-lt : (ws : List ℕ) (i n : ℕ) → i < n → bitAt ws i ≡ false → countTo ws n < n

@@ -27,8 +27,8 @@ unfolding bitOf
 bit-kept ws i k h n = go (ℕ-discrete (k / 64) (i / 64))
   where
     go :
-      Dec (k / 64 ≡ i / 64) →
-      getD (set ws (i / 64) (withBit ws i)) (k / 64) 0 / 2 ^ (k % 64) % 2 ≡ getD ws (k / 64) 0 / 2 ^ (k % 64) % 2
+        Dec (k / 64 ≡ i / 64) →
+        getD (set ws (i / 64) (withBit ws i)) (k / 64) 0 / 2 ^ (k % 64) % 2 ≡ getD ws (k / 64) 0 / 2 ^ (k % 64) % 2
     go (yes e) =
         rw (e, getD-set-same ws (i / 64) (withBit ws i) 0 (omega arith))
         (or-keep (getD ws (i / 64) 0) (i % 64) (k % 64) (omega arith) (λ f. n (omega arith)))
@@ -40,7 +40,7 @@ only-set ws i h =
     record {
       now-set = rw (bit-set ws i h);
       others = λ k n. rw (bit-kept ws i k h n);
-      long = length-set ws (i / 64) (withBit ws i)
+      long = length-set ws (i / 64) (withBit ws i);
     }
 
 -- ---- words written as 0

@@ -42,6 +42,7 @@ power-other k j n = ⊎-elim lower (λ h. higher (omega arith)) (below-or-not j 
   where
     higher : k < j → 2 ^ k / 2 ^ j % 2 ≡ 0
     higher h = rw (div-eq-of-lt (pow-lt h))
+
     lower : j < k → 2 ^ k / 2 ^ j % 2 ≡ 0
     lower h =
         let e : k ≡ suc (k - (j + 1)) + j = omega arith in

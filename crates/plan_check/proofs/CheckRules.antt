@@ -60,12 +60,18 @@ module _ (s : List ℕ) (buffer numbers words : ℕ) where
 
   module _ (j : Job) (opened : Opened s j) where
     check-by-rules :
-      refusal (checkRules s buffer numbers words)
-      ≡ cond (ltb buffer (j .states * j .worlds + 1)) (some 12)
+        refusal (checkRules s buffer numbers words)
+        ≡ cond (ltb buffer (j .states * j .worlds + 1)) (some 12)
         (cond (ltb numbers (j .states * j .worlds + j .worlds) || ltb words ((j .states * j .worlds + j .worlds + 63) / 64)) (some 13) none)
     check-by-rules =
-        refusal-is _ ∙ (file-opened some s _ none j opened ∙ (by-rule some _ _ _ none ∙ rw (by-rule, by-no-rule,
-        same-test words (j .states * j .worlds + j .worlds), ← all-pairs (j .states) (j .worlds), states-are s j opened, worlds-are s j opened)))
+        refusal-is _ ∙ (file-opened some s _ none j opened ∙ (by-rule some _ _ _ none ∙ rw (
+          by-rule,
+          by-no-rule,
+          same-test words (j .states * j .worlds + j .worlds),
+          ← all-pairs (j .states) (j .worlds),
+          states-are s j opened,
+          worlds-are s j opened,
+        )))
 
 -- ---- the answer
 
@@ -100,33 +106,33 @@ module _ (s : List ℕ) (line list words : List ℕ) where
     module _ (enough : j .states * j .worlds + 1 ≤ length line) where
       -- A working list or words that are too few.
       pub list-refused :
-        (ltb (length list) (j .states * j .worlds + j .worlds) || ltb (length words) ((j .states * j .worlds + j .worlds + 63) / 64)) ≡ true →
-        Checked s (answer.Refused 13) lent lent
+          (ltb (length list) (j .states * j .worlds + j .worlds) || ltb (length words) ((j .states * j .worlds + j .worlds + 63) / 64)) ≡ true →
+          Checked s (answer.Refused 13) lent lent
       list-refused short =
           refused-checked _ (tablesOf s) 13 lent
           (check-by-rules s (length line) (length list) (length words) j opened ∙ rw (le-ltb _ _ enough, short))
 
       -- What the search found.
       pub found-checked :
-        (ltb (length list) (j .states * j .worlds + j .worlds) || ltb (length words) ((j .states * j .worlds + j .worlds + 63) / 64)) ≡ false →
-        (f : Found) (line′ list′ words′ : List ℕ) → Finds (tablesOf s) f line line′ →
-        Checked s (answerOf f) lent (record { line = line′; list = list′; words = words′ })
+          (ltb (length list) (j .states * j .worlds + j .worlds) || ltb (length words) ((j .states * j .worlds + j .worlds + 63) / 64)) ≡ false →
+          (f : Found) (line′ list′ words′ : List ℕ) → Finds (tablesOf s) f line line′ →
+          Checked s (answerOf f) lent (record { line = line′; list = list′; words = words′ })
       found-checked room f line′ list′ words′ finds =
           let none-applies : refusal (checkRules s (length line) (length list) (length words)) ≡ none =
-              check-by-rules s (length line) (length list) (length words) j opened ∙ rw (le-ltb _ _ enough, room) in
+          check-by-rules s (length line) (length list) (length words) j opened ∙ rw (le-ltb _ _ enough, room) in
           subst (λ (o : Option ℕ). CheckedBy o (tablesOf s) (answerOf f) lent (record { line = line′; list = list′; words = words′ }))
           (sym none-applies)
           (found-right (tablesOf s) f line line′ finds)
 
 -- Where no rule applies there is room for the search.
 pub has-room : (s : List ℕ) (j : Job) (line list words : ℕ) → Opened s j → j .states * j .worlds + 1 ≤ line →
-  (ltb list (j .states * j .worlds + j .worlds) || ltb words ((j .states * j .worlds + j .worlds + 63) / 64)) ≡ false →
-  Room s j line list words
+    (ltb list (j .states * j .worlds + j .worlds) || ltb words ((j .states * j .worlds + j .worlds + 63) / 64)) ≡ false →
+    Room s j line list words
 has-room s j line list words opened enough room =
     let both = neither (ltb list (j .states * j .worlds + j .worlds)) _ room in
     record {
       opened = opened;
       line-room = enough;
       list-room = rw (all-pairs (j .states) (j .worlds)) (ltb-false _ _ (both .0));
-      words-room = rw (all-pairs (j .states) (j .worlds)) (omega (arith, ltb-false words ((j .states * j .worlds + j .worlds + 63) / 64) (both .1)))
+      words-room = rw (all-pairs (j .states) (j .worlds)) (omega (arith, ltb-false words ((j .states * j .worlds + j .worlds + 63) / 64) (both .1)));
     }

@@ -17,13 +17,18 @@ use Rattle.plan_search.specs.ListEntries.{packed, unpacked, entryOf, ent
 pub unpacked-packed : (p : Placed) → p .pair < 8192 → p .parent < 8192 → unpacked (packed p) ≡ p
 unfolding packed unpacked
 unpacked-packed p h k =
-    rw (pair-is (p .pair) (p .parent) (p .kind) h, parent-is (p .pair) (p .parent) (p .kind) h k,
-    kind-is (p .pair) (p .parent) (p .kind) h k)
+    rw (
+      pair-is (p .pair) (p .parent) (p .kind) h,
+      parent-is (p .pair) (p .parent) (p .kind) h k,
+      kind-is (p .pair) (p .parent) (p .kind) h k,
+    )
   where
     pair-is : (y h k : ℕ) → y < 8192 → (y + 8192 * (h + 8192 * k)) % 8192 ≡ y
     pair-is y h k l = omega arith
+
     parent-is : (y h k : ℕ) → y < 8192 → h < 8192 → (y + 8192 * (h + 8192 * k)) / 8192 % 8192 ≡ h
     parent-is y h k l m = omega arith
+
     kind-is : (y h k : ℕ) → y < 8192 → h < 8192 → (y + 8192 * (h + 8192 * k)) / 67108864 ≡ k
     kind-is y h k l m = omega arith
 
@@ -49,15 +54,15 @@ unfolding entryOf
 entry-lamp E p h = go (p .kind) h
   where
     go :
-      (k : ℕ) → 1 ≤ k →
-      entryOf E (record { pair = p .pair; parent = p .parent; kind = k }) ≡ onward E (p .parent) k (p .pair)
+        (k : ℕ) → 1 ≤ k →
+        entryOf E (record { pair = p .pair; parent = p .parent; kind = k }) ≡ onward E (p .parent) k (p .pair)
     go zero l = absurd (omega arith)
     go (suc k) l = refl
 
 -- ---- the entries of a list of words
 
 from-append :
-  (E : List Entry) (ws vs : List ℕ) → entriesFrom E (ws ++ vs) ≡ entriesFrom (entriesFrom E ws) vs
+    (E : List Entry) (ws vs : List ℕ) → entriesFrom E (ws ++ vs) ≡ entriesFrom (entriesFrom E ws) vs
 unfolding entriesFrom
 from-append E [] vs = refl
 from-append E (w ∷ ws) vs = from-append (grown E (entryOf E (unpacked w))) ws vs
@@ -91,8 +96,8 @@ taken-length list n h = entries-length (take n list) ∙ length-take-le n list h
 
 -- A placed pair that is stored behind the first n words.
 pub entries-stored :
-  (list : List ℕ) (n : ℕ) (p : Placed) → n < length list → p .pair < 8192 → p .parent < 8192 →
-  entries (take (n + 1) (set list n (packed p))) ≡ grown (entries (take n list)) (entryOf (entries (take n list)) p)
+    (list : List ℕ) (n : ℕ) (p : Placed) → n < length list → p .pair < 8192 → p .parent < 8192 →
+    entries (take (n + 1) (set list n (packed p))) ≡ grown (entries (take n list)) (entryOf (entries (take n list)) p)
 entries-stored list n p l h k =
     rw (add-one n, take-suc-set list n (packed p) l)
     (entries-snoc (take n list) (packed p)
@@ -102,7 +107,7 @@ entries-stored list n p l h k =
 
 -- The first words tell the first entries.
 entries-prefix :
-  (ws : List ℕ) (i j : ℕ) → i < j → j ≤ length ws → entryAt (entries ws) i ≡ entryAt (entries (take j ws)) i
+    (ws : List ℕ) (i j : ℕ) → i < j → j ≤ length ws → entryAt (entries ws) i ≡ entryAt (entries (take j ws)) i
 entries-prefix ws i j l h =
     ap (λ (vs : List ℕ). entryAt (entries vs) i) (sym (take-append-drop j ws)) ∙ old
   where
@@ -114,7 +119,7 @@ entries-prefix ws i j l h =
 
 -- An entry is that of its word, behind the entries before it.
 entry-placed :
-  (ws : List ℕ) (i : ℕ) → i < length ws → entryAt (entries ws) i ≡ entryOf (entries (take i ws)) (unpacked (getD ws i 0))
+    (ws : List ℕ) (i : ℕ) → i < length ws → entryAt (entries ws) i ≡ entryOf (entries (take i ws)) (unpacked (getD ws i 0))
 entry-placed ws i l =
     entries-prefix ws i (suc i) (omega arith) (omega arith)
     ∙ ap (λ (vs : List ℕ). entryAt (entries vs) i) (take-suc ws i 0 l)
@@ -123,13 +128,14 @@ entry-placed ws i l =
   where
     E : List Entry
     E = entries (take i ws)
+
     z : Entry
     z = entryOf E (unpacked (getD ws i 0))
 
 -- Its node is the pair of its word.
 pub entries-node :
-  (list : List ℕ) (n i : ℕ) → i < n → n ≤ length list →
-  node (entries (take n list)) i ≡ unpacked (getD list i 0) .pair
+    (list : List ℕ) (n i : ℕ) → i < n → n ≤ length list →
+    node (entries (take n list)) i ≡ unpacked (getD list i 0) .pair
 entries-node list n i l h =
     ap (λ (v : Entry). v .node) (entry-placed (take n list) i (omega (arith, length-take-le n list h)))
     ∙ entry-node (entries (take i (take n list))) (unpacked (getD (take n list) i 0))
@@ -137,20 +143,21 @@ entries-node list n i l h =
 
 -- The entry of a start by its place.
 pub start-at :
-  (ws : List ℕ) (i : ℕ) → i < length ws → unpacked (getD ws i 0) .kind ≡ 0 →
-  (start (entries ws) i ≡ unpacked (getD ws i 0) .parent) × (path (entries ws) i ≡ [])
+    (ws : List ℕ) (i : ℕ) → i < length ws → unpacked (getD ws i 0) .kind ≡ 0 →
+    (start (entries ws) i ≡ unpacked (getD ws i 0) .parent) × (path (entries ws) i ≡ [])
 start-at ws i l e =
     let is = entry-placed ws i l ∙ entry-start (entries (take i ws)) (unpacked (getD ws i 0)) e in
     (ap (λ (v : Entry). v .start) is, ap (λ (v : Entry). v .path) is)
 
 -- The entry of a pair that stands behind its parent.
 pub lamp-at :
-  (ws : List ℕ) (i : ℕ) → i < length ws → 1 ≤ unpacked (getD ws i 0) .kind → unpacked (getD ws i 0) .parent < i →
-  (start (entries ws) i ≡ start (entries ws) (unpacked (getD ws i 0) .parent))
-  × (path (entries ws) i ≡ path (entries ws) (unpacked (getD ws i 0) .parent) ▸ unpacked (getD ws i 0) .kind)
+    (ws : List ℕ) (i : ℕ) → i < length ws → 1 ≤ unpacked (getD ws i 0) .kind → unpacked (getD ws i 0) .parent < i →
+    (start (entries ws) i ≡ start (entries ws) (unpacked (getD ws i 0) .parent))
+    × (path (entries ws) i ≡ path (entries ws) (unpacked (getD ws i 0) .parent) ▸ unpacked (getD ws i 0) .kind)
 lamp-at ws i l h b =
     let p = unpacked (getD ws i 0) in
     let is = entry-placed ws i l ∙ entry-lamp (entries (take i ws)) p h in
-    let from = entries-prefix ws (p .parent) i b (omega arith) in
-    (ap (λ (v : Entry). v .start) is ∙ ap (λ (v : Entry). v .start) (sym from),
-    ap (λ (v : Entry). v .path) is ∙ ap (λ (v : Entry). v .path ▸ p .kind) (sym from))
+    let from = entries-prefix ws (p .parent) i b (omega arith) in (
+      ap (λ (v : Entry). v .start) is ∙ ap (λ (v : Entry). v .start) (sym from),
+      ap (λ (v : Entry). v .path) is ∙ ap (λ (v : Entry). v .path ▸ p .kind) (sym from),
+    )

@@ -24,8 +24,8 @@ state-small x worlds h l = let q : x / worlds < 65 = div-lt-iff-lt-mul h .1 l in
 
 -- Each place is in the table.
 pub place-in-table :
-  (x worlds column : ℕ) → 1 ≤ worlds → worlds ≤ 64 → x < 65 * worlds → column ≤ 15 →
-  fatePlace (x / worlds) (x % worlds) column < 66560
+    (x worlds column : ℕ) → 1 ≤ worlds → worlds ≤ 64 → x < 65 * worlds → column ≤ 15 →
+    fatePlace (x / worlds) (x % worlds) column < 66560
 place-in-table x worlds column h k l c = omega (arith, state-small x worlds h l, mod-lt x h)
 
 -- ---- the numbers in the table
@@ -34,12 +34,17 @@ place-in-table x worlds column h k l c = omega (arith, state-small x worlds h l,
 from-arrived : (worlds n : ℕ) → 16 ≤ n → fateFrom worlds n ≡ arrives ((n - 16) / 64 * worlds + (n - 16) % 64)
 unfolding fateFrom
 from-arrived worlds n h =
-    rw (ne-eqb n 1 (λ e. omega arith), ne-eqb n 2 (λ e. omega arith), ne-eqb n 3 (λ e. omega arith),
-    ne-eqb n 4 (λ e. omega arith), le-ltb n 16 h)
+    rw (
+      ne-eqb n 1 (λ e. omega arith),
+      ne-eqb n 2 (λ e. omega arith),
+      ne-eqb n 3 (λ e. omega arith),
+      ne-eqb n 4 (λ e. omega arith),
+      le-ltb n 16 h,
+    )
 
 -- The entry of a walk that arrives.
 from-pair :
-  (worlds q w : ℕ) → w < 64 → fateFrom worlds (16 + (q * 64 + w)) ≡ arrives (q * worlds + w)
+    (worlds q w : ℕ) → w < 64 → fateFrom worlds (16 + (q * 64 + w)) ≡ arrives (q * worlds + w)
 from-pair worlds q w h =
     let state-is : (16 + (q * 64 + w) - 16) / 64 ≡ q = omega arith in
     let world-is : (16 + (q * 64 + w) - 16) % 64 ≡ w = omega arith in
@@ -47,8 +52,8 @@ from-pair worlds q w h =
 
 -- The number of a walk's fate stands for its fate.
 from-entry :
-  (worlds : ℕ) (v : Walk) → ((p : Pair) (k : ℕ) → v ≡ arrived p k → p .world .0 < 64) →
-  fateFrom worlds (fateEntry v) ≡ fateOf worlds v
+    (worlds : ℕ) (v : Walk) → ((p : Pair) (k : ℕ) → v ≡ arrived p k → p .world .0 < 64) →
+    fateFrom worlds (fateEntry v) ≡ fateOf worlds v
 unfolding fateFrom pairNumber
 from-entry worlds (ended Goal k) h = refl
 from-entry worlds (ended (Failure NotLegal) k) h = refl
@@ -81,8 +86,11 @@ module _ (t : Tables) (fates : List ℕ) (worlds : ℕ) (ready : Ready t fates w
       (ready .holds (x / t .worlds) (x % t .worlds) column (state-range x h)
       (mod-lt x (ready .well-formed .worlds-range .0)) (omega arith))
       ∙ from-entry (t .worlds) (lampWalk t p column) (λ p′ k e.
-      omega (arith, arrived-in-range t (ready .well-formed) (t .states * t .worlds) p p′ column k (sym e) .world-range,
-      ready .well-formed .worlds-range .1)))
+      omega (
+        arith,
+        arrived-in-range t (ready .well-formed) (t .states * t .worlds) p p′ column k (sym e) .world-range,
+        ready .well-formed .worlds-range .1,
+      )))
     where
       p : Pair
       p = pair (programState (x / t .worlds)) (worldState (x % t .worlds))

@@ -34,8 +34,8 @@ good-unless-fails t x h e f l (kind, g, n) =
     h kind (rw zero-end at g)
 
 module _
-  (t : Tables) (fates : List ℕ) (worlds : ℕ) (ready : Ready t fates worlds) (list words : List ℕ) (n h k : ℕ)
-  (searching : Searching t list words n h k) where
+    (t : Tables) (fates : List ℕ) (worlds : ℕ) (ready : Ready t fates worlds) (list words : List ℕ) (n h k : ℕ)
+    (searching : Searching t list words n h k) where
   abbrev E : List Entry
   E = entries (take n list)
 
@@ -75,18 +75,18 @@ module _
 
     -- The run ends there with the goal true.
     pub turn-succeeds :
-      fateIn fates worlds (unpacked (getD list h 0) .pair) k ≡ succeeds → After t list n h k (Holds n) list words
+        fateIn fates worlds (unpacked (getD list h 0) .pair) k ≡ succeeds → After t list n h k (Holds n) list words
     turn-succeeds e =
         record {
           listed = searching .listed;
           at = fate-succeeds t (ready .well-formed) E h k (searching .at) (fate-is succeeds e);
-          low = omega arith
+          low = omega arith;
         }
 
     -- It fails there.
     pub turn-fails :
-      (kind : FailureKind) → fateIn fates worlds (unpacked (getD list h 0) .pair) k ≡ fails kind →
-      Counterexample t kind (worldState (start (entries (take n list)) h)) (lineOf 0 (path (entries (take n list)) h ▸ k))
+        (kind : FailureKind) → fateIn fates worlds (unpacked (getD list h 0) .pair) k ≡ fails kind →
+        Counterexample t kind (worldState (start (entries (take n list)) h)) (lineOf 0 (path (entries (take n list)) h ▸ k))
     turn-fails kind e =
         fate-fails t (ready .well-formed) E h k (searching .at) kind-is kind (fate-is (fails kind) e)
 
@@ -104,40 +104,44 @@ module _
 
       -- What visiting it comes to is what the turn comes to.
       pub turn-came :
-        (r : Turn) (list′ words′ : List ℕ) →
-        Came fates worlds list words n (record { pair = y; parent = h; kind = k }) r list′ words′ →
-        After t list n h k r list′ words′
-      turn-came (Fails kind) list′ words′ (there, same) =
-          (new-bad t (ready .well-formed) E h k (searching .at) kind-is y (fate-is (arrives y) arrival)
-          (λ i l. searching .listed .new y arrival-range (there .unmarked) i
-          (omega (arith, entries-are t list words n (searching .listed))))
-          0 kind (bad-at-one-end t y kind (sym end-read ∙ there .fails-so)), same)
+          (r : Turn) (list′ words′ : List ℕ) →
+          Came fates worlds list words n (record { pair = y; parent = h; kind = k }) r list′ words′ →
+          After t list n h k r list′ words′
+      turn-came (Fails kind) list′ words′ (there, same) = (
+        new-bad t (ready .well-formed) E h k (searching .at) kind-is y (fate-is (arrives y) arrival)
+            (λ i l. searching .listed .new y arrival-range (there .unmarked) i
+            (omega (arith, entries-are t list words n (searching .listed))))
+            0 kind (bad-at-one-end t y kind (sym end-read ∙ there .fails-so)),
+        same,
+      )
       turn-came (Holds m) list′ words′ (inl w) =
           rw (w .count, w .same-list, w .same-words)
           (let (j, l, is) = searching .listed .met y arrival-range (w .marked) in
           record {
             listed = searching .listed;
             at = fate-met t (ready .well-formed) E h k (searching .at) y j (fate-is (arrives y) arrival)
-              (omega (arith, entries-are t list words n (searching .listed))) is;
-            low = omega arith
+                (omega (arith, entries-are t list words n (searching .listed))) is;
+            low = omega arith;
           })
       turn-came (Holds m) list′ words′ (inr w) =
           rw (w .count, w .stored)
           (record {
             listed = listed-placed t list words n (searching .listed) p words′ few arrival-range small (w .unmarked) (w .only)
-              (λ l. tried-in);
+                (λ l. tried-in);
             at = subst (λ (F : List Entry). At (graph t) F h (k + 1)) (sym table)
-              (new-good t (ready .well-formed) E h k (searching .at) kind-is y (fate-is (arrives y) arrival)
-              (λ i l. searching .listed .new y arrival-range (w .unmarked) i
-              (omega (arith, entries-are t list words n (searching .listed))))
-              (good-unless-fails t y (λ kind e. w .good kind (end-read ∙ e))));
-            low = omega arith
+                (new-good t (ready .well-formed) E h k (searching .at) kind-is y (fate-is (arrives y) arrival)
+                (λ i l. searching .listed .new y arrival-range (w .unmarked) i
+                (omega (arith, entries-are t list words n (searching .listed))))
+                (good-unless-fails t y (λ kind e. w .good kind (end-read ∙ e))));
+            low = omega arith;
           })
         where
           few : pairs t ≤ 4160
           few = pairs-few t fates worlds ready
+
           small : h < 8192
           small = omega (arith, tried-below, few)
+
           table : entries (take (n + 1) (set list n (packed p))) ≡ grown E (onward E h k y)
           table =
               entries-grown t list words n (searching .listed) p words′ few arrival-range small (w .unmarked) (w .only)

@@ -44,9 +44,9 @@ module _ (list : List ℕ) (chained : Chained list) (place : ℕ) (p : Placed) (
 
     -- The parent of any other pair stands before it, and has one lamp fewer.
     at-lamp :
-      p .kind ≢ 0 →
-      (p .parent < place) × (start (entries list) place ≡ start (entries list) (p .parent))
-      × (path (entries list) place ≡ path (entries list) (p .parent) ▸ p .kind)
+        p .kind ≢ 0 →
+        (p .parent < place) × (start (entries list) place ≡ start (entries list) (p .parent))
+        × (path (entries list) place ≡ path (entries list) (p .parent) ▸ p .kind)
     at-lamp d =
         let low : 1 ≤ unpacked (getD list place 0) .kind = omega (arith, kind-is, d) in
         let before = chained place placed low in
@@ -64,12 +64,14 @@ module _ (list : List ℕ) (chained : Chained list) (place : ℕ) (p : Placed) (
     pub counts-on : p .kind ≢ 0 → (p .parent < place) × Counting list from (p .parent) (lamps + 1)
     counts-on d =
         let (before, s, l) = at-lamp (counting .placed) d in
-        let longer = ap length l ∙ one-longer (path (entries list) (p .parent)) (p .kind) in
-        (before, record {
-          placed = omega (arith, counting .placed);
-          owed = omega (arith, counting .owed);
-          few = omega (arith, counting .few)
-        })
+        let longer = ap length l ∙ one-longer (path (entries list) (p .parent)) (p .kind) in (
+          before,
+          record {
+            placed = omega (arith, counting .placed);
+            owed = omega (arith, counting .owed);
+            few = omega (arith, counting .few);
+          },
+        )
 
 -- ---- writing
 
@@ -85,18 +87,18 @@ pub record Writing (list line₀ : List ℕ) (from kind lamps : ℕ) (line : Lis
   pub same-start : start (entries list) place ≡ start (entries list) from
   -- What is still to be written, before what stands in the buffer, gives the whole.
   pub owed :
-    (path (entries list) from ▸ kind) ++ drop (lamps + 1) line₀ ≡ (path (entries list) place ▸ lamp) ++ drop (at + 1) line
+      (path (entries list) from ▸ kind) ++ drop (lamps + 1) line₀ ≡ (path (entries list) place ▸ lamp) ++ drop (at + 1) line
 
 -- Before the first lamp is written.
 pub writing-starts :
-  (list line : List ℕ) (from kind lamps : ℕ) → from < length list → lamps < length line →
-  lamps ≡ length (path (entries list) from) → Writing list line from kind lamps line lamps from kind
+    (list line : List ℕ) (from kind lamps : ℕ) → from < length list → lamps < length line →
+    lamps ≡ length (path (entries list) from) → Writing list line from kind lamps line lamps from kind
 writing-starts list line from kind lamps h l e =
     record { placed = h; left = e; room = l; same-length = refl; same-start = refl; owed = refl }
 
 -- A lamp that is written stands before what was written.
 stored :
-  (l line : List ℕ) (at x : ℕ) → at < length line → (l ▸ x) ++ drop (at + 1) line ≡ l ++ drop at (set line at x)
+    (l line : List ℕ) (at x : ℕ) → at < length line → (l ▸ x) ++ drop (at + 1) line ≡ l ++ drop at (set line at x)
 stored l line at x h =
     snoc-append l x (drop (at + 1) line)
     ∙ ap (λ (m : List ℕ). l ++ m)
@@ -104,39 +106,43 @@ stored l line at x h =
     ∙ rw (add-one at, getD-set-same line at x 0 h, drop-set-lt (suc at) line at x (omega arith))))
 
 module _
-  (list : List ℕ) (chained : Chained list) (place : ℕ) (p : Placed) (is : p ≡ unpacked (getD list place 0))
-  (line₀ : List ℕ) (from kind lamps : ℕ) (line : List ℕ) (at lamp : ℕ)
-  (writing : Writing list line₀ from kind lamps line at place lamp) where
+    (list : List ℕ) (chained : Chained list) (place : ℕ) (p : Placed) (is : p ≡ unpacked (getD list place 0))
+    (line₀ : List ℕ) (from kind lamps : ℕ) (line : List ℕ) (at lamp : ℕ)
+    (writing : Writing list line₀ from kind lamps line at place lamp) where
   -- The start is reached: all is written.
   pub written-all :
-    p .kind ≡ 0 →
-    (p .parent ≡ start (entries list) from) × (set line at lamp ≡ (path (entries list) from ▸ kind) ++ drop (lamps + 1) line₀)
+      p .kind ≡ 0 →
+      (p .parent ≡ start (entries list) from) × (set line at lamp ≡ (path (entries list) from ▸ kind) ++ drop (lamps + 1) line₀)
   written-all e =
       let (s, l) = at-start list chained place p is (writing .placed) e in
-      let none : at ≡ 0 = writing .left ∙ ap length l in
-      (sym s ∙ writing .same-start,
-      sym (writing .owed
-      ∙ ap (λ (m : List ℕ). (m ▸ lamp) ++ drop (at + 1) line) l
-      ∙ stored [] line at lamp (writing .room)
-      ∙ ap (λ (i : ℕ). drop i (set line at lamp)) none))
+      let none : at ≡ 0 = writing .left ∙ ap length l in (
+        sym s ∙ writing .same-start,
+        sym (writing .owed
+            ∙ ap (λ (m : List ℕ). (m ▸ lamp) ++ drop (at + 1) line) l
+            ∙ stored [] line at lamp (writing .room)
+            ∙ ap (λ (i : ℕ). drop i (set line at lamp)) none),
+      )
 
   -- The parent's lamp is the next.
   pub writes-on :
-    p .kind ≢ 0 →
-    (1 ≤ at) × (p .parent < place) × Writing list line₀ from kind lamps (set line at lamp) (at - 1) (p .parent) (p .kind)
+      p .kind ≢ 0 →
+      (1 ≤ at) × (p .parent < place) × Writing list line₀ from kind lamps (set line at lamp) (at - 1) (p .parent) (p .kind)
   writes-on d =
       let (before, s, l) = at-lamp list chained place p is (writing .placed) d in
       let longer = ap length l ∙ one-longer (path (entries list) (p .parent)) (p .kind) in
-      let back : at - 1 + 1 ≡ at = omega (arith, writing .left) in
-      (omega (arith, writing .left), before, record {
-        placed = omega (arith, writing .placed);
-        left = omega (arith, writing .left);
-        room = omega (arith, writing .room, length-set line at lamp);
-        same-length = length-set line at lamp ∙ writing .same-length;
-        same-start = sym s ∙ writing .same-start;
-        owed =
-          writing .owed
-          ∙ ap (λ (m : List ℕ). (m ▸ lamp) ++ drop (at + 1) line) l
-          ∙ stored (path (entries list) (p .parent) ▸ p .kind) line at lamp (writing .room)
-          ∙ ap (λ (i : ℕ). (path (entries list) (p .parent) ▸ p .kind) ++ drop i (set line at lamp)) (sym back)
-      })
+      let back : at - 1 + 1 ≡ at = omega (arith, writing .left) in (
+        omega (arith, writing .left),
+        before,
+        record {
+          placed = omega (arith, writing .placed);
+          left = omega (arith, writing .left);
+          room = omega (arith, writing .room, length-set line at lamp);
+          same-length = length-set line at lamp ∙ writing .same-length;
+          same-start = sym s ∙ writing .same-start;
+          owed =
+              writing .owed
+              ∙ ap (λ (m : List ℕ). (m ▸ lamp) ++ drop (at + 1) line) l
+              ∙ stored (path (entries list) (p .parent) ▸ p .kind) line at lamp (writing .room)
+              ∙ ap (λ (i : ℕ). (path (entries list) (p .parent) ▸ p .kind) ++ drop i (set line at lamp)) (sym back);
+        },
+      )

@@ -32,15 +32,19 @@ module _ (t : Tables) (fates : List ℕ) (worlds : ℕ) (ready : Ready t fates w
   -- The number of a pair by the world states.
   pub pair-low : (x : ℕ) → x < pairs t → x < 65 * worlds
   pair-low x h =
-      omega (arith, h, ap (λ (w : ℕ). 65 * w) (ready .worlds-are),
-      mul-le-mul-right {m = t .states + 1} {n = 65} (t .worlds) (omega (arith, ready .well-formed .states-range)))
+      omega (
+        arith,
+        h,
+        ap (λ (w : ℕ). 65 * w) (ready .worlds-are),
+        mul-le-mul-right {m = t .states + 1} {n = 65} (t .worlds) (omega (arith, ready .well-formed .states-range)),
+      )
 
 -- ---- the list
 
 -- With cleared bits the list is empty.
 pub listed-empty :
-  (t : Tables) (list words : List ℕ) → Cleared words (pairs t) → pairs t ≤ length list → pairs t ≤ length words * 64 →
-  Listed t list words 0
+    (t : Tables) (list words : List ℕ) → Cleared words (pairs t) → pairs t ≤ length list → pairs t ≤ length words * 64 →
+    Listed t list words 0
 unfolding Cleared
 listed-empty t list words cleared h k =
     record {
@@ -49,7 +53,7 @@ listed-empty t list words cleared h k =
       counted = count-cleared words (pairs t) cleared;
       behind = λ i l. absurd (omega arith);
       list-room = h;
-      bits-room = k
+      bits-room = k;
     }
 
 module _ (t : Tables) (list words : List ℕ) (n : ℕ) (listed : Listed t list words n) where
@@ -68,8 +72,8 @@ module _ (t : Tables) (list words : List ℕ) (n : ℕ) (listed : Listed t list 
   -- ---- a new pair is placed
 
   module _
-    (p : Placed) (words′ : List ℕ) (few : pairs t ≤ 4160) (pair-range : p .pair < pairs t) (parent-range : p .parent < 8192)
-    (unmarked : bitAt words (p .pair) ≡ false) (only : OnlySet words words′ (p .pair)) where
+      (p : Placed) (words′ : List ℕ) (few : pairs t ≤ 4160) (pair-range : p .pair < pairs t) (parent-range : p .parent < 8192)
+      (unmarked : bitAt words (p .pair) ≡ false) (only : OnlySet words words′ (p .pair)) where
     abbrev E : List Entry
     E = entries (take n list)
 
@@ -81,7 +85,7 @@ module _ (t : Tables) (list words : List ℕ) (n : ℕ) (listed : Listed t list 
 
     -- There is one entry more.
     pub entries-grown :
-      entries (take (n + 1) (set list n (packed p))) ≡ grown (entries (take n list)) (entryOf (entries (take n list)) p)
+        entries (take (n + 1) (set list n (packed p))) ≡ grown (entries (take n list)) (entryOf (entries (take n list)) p)
     entries-grown = entries-stored list n p room (omega arith) parent-range
 
     old : (i : ℕ) → i < n → node (entries (take (n + 1) list′)) i ≡ node E i
@@ -96,8 +100,8 @@ module _ (t : Tables) (list words : List ℕ) (n : ℕ) (listed : Listed t list 
         (ap (λ (v : Entry). v .node) (grown-new E (entryOf E p)) ∙ entry-node E p)
 
     met :
-      (y : ℕ) → y < pairs t → bitAt words′ y ≡ true →
-      (i : ℕ) × (i < n + 1) × (node (entries (take (n + 1) list′)) i ≡ y)
+        (y : ℕ) → y < pairs t → bitAt words′ y ≡ true →
+        (i : ℕ) × (i < n + 1) × (node (entries (take (n + 1) list′)) i ≡ y)
     met y l e = go (ℕ-discrete y (p .pair))
       where
         go : Dec (y ≡ p .pair) → (i : ℕ) × (i < n + 1) × (node (entries (take (n + 1) list′)) i ≡ y)
@@ -107,8 +111,8 @@ module _ (t : Tables) (list words : List ℕ) (n : ℕ) (listed : Listed t list 
             (i, omega arith, old i m ∙ is)
 
     new :
-      (y : ℕ) → y < pairs t → bitAt words′ y ≡ false → (i : ℕ) → i < n + 1 →
-      node (entries (take (n + 1) list′)) i ≢ y
+        (y : ℕ) → y < pairs t → bitAt words′ y ≡ false → (i : ℕ) → i < n + 1 →
+        node (entries (take (n + 1) list′)) i ≢ y
     new y l e i m is = go (ℕ-discrete y (p .pair)) (below-or-last i n m)
       where
         go : Dec (y ≡ p .pair) → (i < n) ⊎ (i ≡ n) → ⊥
@@ -128,7 +132,7 @@ module _ (t : Tables) (list words : List ℕ) (n : ℕ) (listed : Listed t list 
           counted = count-one words words′ (p .pair) (pairs t) pair-range unmarked only ∙ ap (λ (m : ℕ). m + 1) (listed .counted);
           behind = behind;
           list-room = omega (arith, listed .list-room, length-set list n (packed p));
-          bits-room = omega (arith, listed .bits-room, only .long)
+          bits-room = omega (arith, listed .bits-room, only .long);
         }
       where
         behind : (i : ℕ) → i < n + 1 → 1 ≤ unpacked (getD list′ i 0) .kind → unpacked (getD list′ i 0) .parent < i
@@ -137,7 +141,7 @@ module _ (t : Tables) (list words : List ℕ) (n : ℕ) (listed : Listed t list 
             go : Dec (i ≡ n) → 1 ≤ unpacked (getD list′ i 0) .kind → unpacked (getD list′ i 0) .parent < i
             go (yes q) =
                 let is : unpacked (getD list′ i 0) ≡ p =
-                      ap (λ (j : ℕ). unpacked (getD list′ j 0)) q ∙ ap unpacked (getD-set-same list n (packed p) 0 room)
-                      ∙ unpacked-packed p (omega arith) parent-range in
+                ap (λ (j : ℕ). unpacked (getD list′ j 0)) q ∙ ap unpacked (getD-set-same list n (packed p) 0 room)
+                ∙ unpacked-packed p (omega arith) parent-range in
                 rw (is, q) parent-in
             go (no q) = rw (getD-set-other list n i (packed p) 0 q) (listed .behind i (omega arith))

@@ -42,8 +42,8 @@ module _ (t : Tables) (r : Halted) (list : List ℕ) (searched : Searched t r li
 
 -- The empty line fails: nothing is written.
 pub names-empty :
-  (t : Tables) (kind : FailureKind) (w : WorldState) (line : List ℕ) → Counterexample t kind w (lineOf 0 []) →
-  Names t kind w 0 line line
+    (t : Tables) (kind : FailureKind) (w : WorldState) (line : List ℕ) → Counterexample t kind w (lineOf 0 []) →
+    Names t kind w 0 line line
 names-empty t kind w line fails = record { counterexample = fails; within = omega arith; rest = refl }
 
 module _ (t : Tables) (list : List ℕ) (n h k : ℕ) (kind : FailureKind) (fails : LampFails t list n h k kind) where
@@ -58,8 +58,11 @@ module _ (t : Tables) (list : List ℕ) (n h k : ℕ) (kind : FailureKind) (fail
   -- The start's number is a byte.
   pub start-small : WellFormed t → start (entries (take n list)) h < 256
   start-small wf =
-      omega (arith, wf .start-range (worldState (start (entries (take n list)) h)) (fails .counterexample .fails .marked),
-      wf .worlds-range .1)
+      omega (
+        arith,
+        wf .start-range (worldState (start (entries (take n list)) h)) (fails .counterexample .fails .marked),
+        wf .worlds-range .1,
+      )
 
   -- There are at most S·W lamps before the last.
   pub lamps-fit : length (path (entries (take n list)) h) ≤ t .states * t .worlds
@@ -71,32 +74,37 @@ module _ (t : Tables) (list : List ℕ) (n h k : ℕ) (kind : FailureKind) (fail
 
   -- The line that is written is the counterexample's.
   pub names-line :
-    (lamps : ℕ) (line : List ℕ) (r : WorldState) (line′ : List ℕ) → lamps ≡ length (path (entries (take n list)) h) →
-    lamps < length line → length line′ ≡ length line → Written (take n list) h k lamps line r line′ →
-    Names t kind r (lamps + 1) line line′
+      (lamps : ℕ) (line : List ℕ) (r : WorldState) (line′ : List ℕ) → lamps ≡ length (path (entries (take n list)) h) →
+      lamps < length line → length line′ ≡ length line → Written (take n list) h k lamps line r line′ →
+      Names t kind r (lamps + 1) line line′
   names-line lamps line r line′ e room same written =
       record {
         counterexample =
-          subst (λ (w : WorldState). Counterexample t kind w (lineOf 0 (take (lamps + 1) line′)))
-          (ap worldState (sym (written .start-is)))
-          (subst (λ (l : List ℕ). Counterexample t kind (worldState (start (entries (take n list)) h)) (lineOf 0 l))
-          (sym front) (fails .counterexample));
+            subst (λ (w : WorldState). Counterexample t kind w (lineOf 0 (take (lamps + 1) line′)))
+            (ap worldState (sym (written .start-is)))
+            (subst (λ (l : List ℕ). Counterexample t kind (worldState (start (entries (take n list)) h)) (lineOf 0 l))
+            (sym front) (fails .counterexample));
         within = omega arith;
-        rest = ap (drop (lamps + 1)) (written .line-is) ∙ drop-at whole (drop (lamps + 1) line) (lamps + 1) size
+        rest = ap (drop (lamps + 1)) (written .line-is) ∙ drop-at whole (drop (lamps + 1) line) (lamps + 1) size;
       }
     where
       whole : List ℕ
       whole = path (entries (take n list)) h ▸ k
+
       size : length whole ≡ lamps + 1
       size = one-longer (path (entries (take n list)) h) k ∙ ap (λ (m : ℕ). m + 1) (sym e)
+
       front : take (lamps + 1) line′ ≡ whole
       front = ap (take (lamps + 1)) (written .line-is) ∙ take-at whole (drop (lamps + 1) line) (lamps + 1) size
 
 -- The buffer has room for the line.
 pub line-fits :
-  (s : List ℕ) (j : Job) → Opened s j → (list : List ℕ) (n h k : ℕ) (kind : FailureKind) →
-  LampFails (tablesOf s) list n h k kind →
-  (lamps size : ℕ) → lamps ≡ length (path (entries (take n list)) h) → j .states * j .worlds + 1 ≤ size → lamps < size
+    (s : List ℕ) (j : Job) → Opened s j → (list : List ℕ) (n h k : ℕ) (kind : FailureKind) →
+    LampFails (tablesOf s) list n h k kind →
+    (lamps size : ℕ) → lamps ≡ length (path (entries (take n list)) h) → j .states * j .worlds + 1 ≤ size → lamps < size
 line-fits s j opened list n h k kind fails lamps size e room =
-    omega (arith, lamps-fit (tablesOf s) list n h k kind fails,
-    ap₂ (λ (q w : ℕ). q * w) (states-are s j opened) (worlds-are s j opened))
+    omega (
+      arith,
+      lamps-fit (tablesOf s) list n h k kind fails,
+      ap₂ (λ (q w : ℕ). q * w) (states-are s j opened) (worlds-are s j opened),
+    )

@@ -46,7 +46,7 @@ module _ (s : List ℕ) (j : Job) (fates list words : List ℕ) (can : CanSearch
         well-formed = well-formed s j (can .opened);
         holds = can .holds;
         long = can .long;
-        worlds-are = worlds-are s j (can .opened)
+        worlds-are = worlds-are s j (can .opened);
       }
 
   -- The number of pairs by the job that the reader answered.
@@ -64,8 +64,8 @@ module _ (s : List ℕ) (j : Job) (fates list words : List ℕ) (can : CanSearch
 
   -- With the bits cleared the list is empty.
   pub search-begins :
-    (words′ : List ℕ) → length words′ ≡ length words → Cleared words′ ((j .states + 1) * j .worlds) →
-    Listed (tablesOf s) list words′ 0
+      (words′ : List ℕ) → length words′ ≡ length words → Cleared words′ ((j .states + 1) * j .worlds) →
+      Listed (tablesOf s) list words′ 0
   search-begins words′ e cleared =
       listed-empty (tablesOf s) list words′ (subst (Cleared words′) pairs-are cleared)
       (omega (arith, pairs-are, can .list-room)) (omega (arith, pairs-are, can .bits-room, e))
@@ -82,13 +82,13 @@ module _ (t : Tables) (r : Starts) (list words : List ℕ) (after : AfterStarts 
         searching = subst (λ (u : Starts). AfterStarts t u list words) e after;
         high = omega arith;
         list-length = refl;
-        words-length = refl
+        words-length = refl;
       }
 
 -- ---- a turn
 
 module _ (t : Tables) (fates : List ℕ) (worlds : ℕ) (ready : Ready t fates worlds) (list words : List ℕ) (n h k : ℕ)
-  (searching : Searching t list words n h k) where
+    (searching : Searching t list words n h k) where
   -- The list of the pairs placed is chained.
   chained : Chained (take n list)
   chained i l =
@@ -96,8 +96,10 @@ module _ (t : Tables) (fates : List ℕ) (worlds : ℕ) (ready : Ready t fates w
     where
       in-list : i < n
       in-list =
-          omega (arith,
-          length-take-le n list (omega (arith, count-fits t list words n (searching .listed), searching .listed .list-room)))
+          omega (
+            arith,
+            length-take-le n list (omega (arith, count-fits t list words n (searching .listed), searching .listed .list-room)),
+          )
 
   module _ (r : Turn) (list′ words′ : List ℕ) (after : After t list n h k r list′ words′) where
     -- The line that is tried fails.
@@ -110,7 +112,7 @@ module _ (t : Tables) (fates : List ℕ) (worlds : ℕ) (ready : Ready t fates w
           placed = tried-in t fates worlds ready list words n h k searching;
           few = omega (arith, count-fits t list words n (searching .listed), pairs-few t fates worlds ready);
           within = omega (arith, count-fits t list words n (searching .listed), searching .listed .list-room);
-          chained = chained
+          chained = chained;
         })
 
     -- The next kind is tried.
@@ -128,8 +130,8 @@ module _ (t : Tables) (fates : List ℕ) (worlds : ℕ) (ready : Ready t fates w
         record {
           listed = searching .listed;
           at = turn-next (graph t) (entries (take n list)) h at-end
-            (omega (arith, entries-are t list words n (searching .listed)));
-          low = omega arith
+              (omega (arith, entries-are t list words n (searching .listed)));
+          low = omega arith;
         }
 
     -- There is none: the plan is accepted with the number of bits.

@@ -35,7 +35,7 @@ use Rattle.plan_search.proofs.LampTurns.{good-unless-fails}
 
 -- The number of a start's pair, by the job that the reader answered.
 pub start-node-is :
-  (s : List ℕ) (j : Job) → Opened s j → (w : ℕ) → j .first .0 * j .worlds + w * 1 ≡ startNode (tablesOf s) w
+    (s : List ℕ) (j : Job) → Opened s j → (w : ℕ) → j .first .0 * j .worlds + w * 1 ≡ startNode (tablesOf s) w
 unfolding pairNumber
 start-node-is s j opened w = rw (first-is s j opened, worlds-are s j opened, mul-one w)
 
@@ -67,7 +67,7 @@ unfolding entries entriesFrom
 starting-empty t list words listed = record { listed = listed; begun = begin-empty (graph t) }
 
 module _ (t : Tables) (fates : List ℕ) (worlds : ℕ) (ready : Ready t fates worlds) (list words : List ℕ) (n s : ℕ)
-  (starting : Starting t list words n s) where
+    (starting : Starting t list words n s) where
   abbrev E : List Entry
   E = entries (take n list)
 
@@ -83,7 +83,7 @@ module _ (t : Tables) (fates : List ℕ) (worlds : ℕ) (ready : Ready t fates w
       record {
         listed = starting .listed;
         at = starts-done t (ready .well-formed) E (subst (Begun (graph t) E) is (starting .begun));
-        low = omega arith
+        low = omega arith;
       }
 
   -- It is marked, and its pair y is visited.
@@ -108,8 +108,8 @@ module _ (t : Tables) (fates : List ℕ) (worlds : ℕ) (ready : Ready t fates w
 
     -- What visiting it comes to is what the start comes to.
     pub start-came :
-      s < 8192 → (r : Turn) (list′ words′ : List ℕ) →
-      Came fates worlds list words n (record { pair = y; parent = s; kind = 0 }) r list′ words′ → AfterStart t s r list′ words′
+        s < 8192 → (r : Turn) (list′ words′ : List ℕ) →
+        Came fates worlds list words n (record { pair = y; parent = s; kind = 0 }) r list′ words′ → AfterStart t s r list′ words′
     start-came small (Fails kind) list′ words′ (there, same) =
         start-bad t (ready .well-formed) E s (starting .begun) 0 kind marked
         (bad-at-one-end t (startNode t s) kind (sym end-read ∙ there .fails-so))
@@ -120,14 +120,15 @@ module _ (t : Tables) (fates : List ℕ) (worlds : ℕ) (ready : Ready t fates w
         rw (w .count, w .stored)
         (record {
           listed = listed-placed t list words n (starting .listed) p words′ few start-range small (w .unmarked) (w .only)
-            (λ l. absurd (omega arith));
+              (λ l. absurd (omega arith));
           begun = subst (λ (F : List Entry). Begun (graph t) F (s + 1)) (sym table)
-            (start-good t (ready .well-formed) E s (starting .begun) marked
-            (good-unless-fails t (startNode t s) (λ kind e. w .good kind (end-read ∙ e))))
+              (start-good t (ready .well-formed) E s (starting .begun) marked
+              (good-unless-fails t (startNode t s) (λ kind e. w .good kind (end-read ∙ e))));
         })
       where
         few : pairs t ≤ 4160
         few = pairs-few t fates worlds ready
+
         table : entries (take (n + 1) (set list n (packed p))) ≡ grown E (entry (startNode t s) s [])
         table =
             entries-grown t list words n (starting .listed) p words′ few start-range small (w .unmarked) (w .only)

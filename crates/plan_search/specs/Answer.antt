@@ -47,7 +47,7 @@ Finds t (Failed kind start lamps) line line′ = Names t kind start lamps line l
 -- The line of the placed pair h, of n, with a lamp of the kind k more is the counterexample.
 pub record LampFails (t : Tables) (list : List ℕ) (n h k : ℕ) (kind : FailureKind) : Type 0 where
   pub counterexample :
-    Counterexample t kind (worldState (start (entries (take n list)) h)) (lineOf 0 (path (entries (take n list)) h ▸ k))
+      Counterexample t kind (worldState (start (entries (take n list)) h)) (lineOf 0 (path (entries (take n list)) h ▸ k))
   pub placed : h < n
   pub few : n ≤ 4160
   pub within : n ≤ length list

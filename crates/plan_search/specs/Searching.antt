@@ -89,7 +89,7 @@ pub record WasMet (list words : List ℕ) (n : ℕ) (p : Placed) (m : ℕ) (list
 
 -- The pair is new and does not fail at the line's end. It is placed, and its bit is set.
 pub record IsPlaced (fates : List ℕ) (worlds : ℕ) (list words : List ℕ) (n : ℕ) (p : Placed) (m : ℕ) (list′ words′ : List ℕ) :
-  Type 0 where
+    Type 0 where
   pub unmarked : bitAt words (p .pair) ≡ false
   pub good : (kind : FailureKind) → fateIn fates worlds (p .pair) 0 ≢ fails kind
   pub count : m ≡ n + 1

@@ -16,12 +16,12 @@ module _ (D : ActionTheory) (P : Plan) where
   data Chain : List Label → P .State → D .Situation → P .State → D .Situation → Type 0 where
     done : {q : P .State} {s : D .Situation} → Chain [] q s q s
     first :
-      {l : Label} {ls : List Label} {q q″ q′ : P .State} {s s″ s′ : D .Situation} →
-      Step D P q s l q″ s″ → Chain ls q″ s″ q′ s′ → Chain (l ∷ ls) q s q′ s′
+        {l : Label} {ls : List Label} {q q″ q′ : P .State} {s s″ s′ : D .Situation} →
+        Step D P q s l q″ s″ → Chain ls q″ s″ q′ s′ → Chain (l ∷ ls) q s q′ s′
 
   chain-append :
-    {ls ms : List Label} {q q″ q′ : P .State} {s s″ s′ : D .Situation} →
-    Chain ls q s q″ s″ → Chain ms q″ s″ q′ s′ → Chain (ls ++ ms) q s q′ s′
+      {ls ms : List Label} {q q″ q′ : P .State} {s s″ s′ : D .Situation} →
+      Chain ls q s q″ s″ → Chain ms q″ s″ q′ s′ → Chain (ls ++ ms) q s q′ s′
   chain-append done b = b
   chain-append (first x a) b = first x (chain-append a b)
 
@@ -36,15 +36,15 @@ module _ (D : ActionTheory) (P : Plan) where
 
   -- The execution comes to this place by the steps ls, and goes on from there by a last step l.
   pub record LastStep
-    (ls : List Label) (l : Label) (q : P .State) (s : D .Situation) (q′ : P .State) (s′ : D .Situation) : Type 0 where
+      (ls : List Label) (l : Label) (q : P .State) (s : D .Situation) (q′ : P .State) (s′ : D .Situation) : Type 0 where
     pub state : P .State
     pub at : D .Situation
     pub before : T* D P ls q s state at
     pub last : Step D P state at l q′ s′
 
   last-of-chain :
-    (ls : List Label) {l : Label} {q q′ : P .State} {s s′ : D .Situation} →
-    Chain (ls ++ (l ∷ [])) q s q′ s′ → LastStep ls l q s q′ s′
+      (ls : List Label) {l : Label} {q q′ : P .State} {s s′ : D .Situation} →
+      Chain (ls ++ (l ∷ [])) q s q′ s′ → LastStep ls l q s q′ s′
   last-of-chain [] (first x done) = record { state = _; at = _; before = here; last = x }
   last-of-chain (m ∷ ls) (first x a) =
       let b = last-of-chain ls a in
@@ -52,8 +52,8 @@ module _ (D : ActionTheory) (P : Plan) where
 
   -- An execution with a last label has a last step.
   pub last-step :
-    (ls : List Label) {l : Label} {q q′ : P .State} {s s′ : D .Situation} →
-    T* D P (ls ++ (l ∷ [])) q s q′ s′ → LastStep ls l q s q′ s′
+      (ls : List Label) {l : Label} {q q′ : P .State} {s s′ : D .Situation} →
+      T* D P (ls ++ (l ∷ [])) q s q′ s′ → LastStep ls l q s q′ s′
   last-step ls a = last-of-chain ls (execution→chain a)
 
   -- ---- executions for ever
@@ -65,28 +65,31 @@ module _ (D : ActionTheory) (P : Plan) where
       states : ℕ → P .State
       states zero = q
       states (suc i) = f .states i
+
       situations : ℕ → D .Situation
       situations zero = s
       situations (suc i) = f .situations i
+
       labels : ℕ → Label
       labels zero = l
       labels (suc i) = f .labels i
+
       steps : (i : ℕ) → Step D P (states i) (situations i) (labels i) (states (suc i)) (situations (suc i))
       steps zero = subst₂ (λ q′ s′. Step D P q s l q′ s′) (sym (f .begins .0)) (sym (f .begins .1)) x
       steps (suc i) = f .steps i
 
   -- An execution that comes to a place from which it goes on for ever does so from its beginning.
   pub forever-before :
-    {ls : List Label} {q q′ : P .State} {s s′ : D .Situation} →
-    T* D P ls q s q′ s′ → Forever D P q′ s′ → Forever D P q s
+      {ls : List Label} {q q′ : P .State} {s s′ : D .Situation} →
+      T* D P ls q s q′ s′ → Forever D P q′ s′ → Forever D P q s
   forever-before here f = f
   forever-before (join a b) f = forever-before a (forever-before b f)
   forever-before (step x) f = step-before x f
 
   -- The first n steps of an execution that goes on for ever.
   pub first-steps :
-    {q : P .State} {s : D .Situation} (f : Forever D P q s) (n : ℕ) →
-    (ls : List Label) × (length ls ≡ n) × T* D P ls q s (f .states n) (f .situations n)
+      {q : P .State} {s : D .Situation} (f : Forever D P q s) (n : ℕ) →
+      (ls : List Label) × (length ls ≡ n) × T* D P ls q s (f .states n) (f .situations n)
   first-steps f zero =
       ([], refl, subst₂ (λ q s. T* D P [] q s (f .states 0) (f .situations 0)) (f .begins .0) (f .begins .1) here)
   first-steps f (suc n) =
@@ -98,8 +101,8 @@ module _ (D : ActionTheory) (P : Plan) where
   -- A place has at most one step.
   pub record StepsDetermined : Type 0 where
     pub one-step :
-      {l m : Label} {q q₁ q₂ : P .State} {s s₁ s₂ : D .Situation} →
-      Step D P q s l q₁ s₁ → Step D P q s m q₂ s₂ → (l ≡ m) × (q₁ ≡ q₂) × (s₁ ≡ s₂)
+        {l m : Label} {q q₁ q₂ : P .State} {s s₁ s₂ : D .Situation} →
+        Step D P q s l q₁ s₁ → Step D P q s m q₂ s₂ → (l ≡ m) × (q₁ ≡ q₂) × (s₁ ≡ s₂)
 
   -- A place has no step.
   abbrev pub Halted : P .State → D .Situation → Type 0
@@ -113,9 +116,9 @@ module _ (D : ActionTheory) (P : Plan) where
 
   module _ (determined : StepsDetermined) where
     shared-chain :
-      {ls ms : List Label} {q q₁ q₂ : P .State} {s s₁ s₂ : D .Situation} →
-      Chain ls q s q₁ s₁ → Chain ms q s q₂ s₂ → length ls ≤ length ms →
-      (ns : List Label) × (ms ≡ ls ++ ns) × Chain ns q₁ s₁ q₂ s₂
+        {ls ms : List Label} {q q₁ q₂ : P .State} {s s₁ s₂ : D .Situation} →
+        Chain ls q s q₁ s₁ → Chain ms q s q₂ s₂ → length ls ≤ length ms →
+        (ns : List Label) × (ms ≡ ls ++ ns) × Chain ns q₁ s₁ q₂ s₂
     shared-chain {ms = ms} done b h = (ms, refl, b)
     shared-chain (first x a) done h = absurd (omega arith)
     shared-chain (first {l = l} x a) (first {ls = ms} {q′ = q₂} {s′ = s₂} y b) h =
@@ -126,17 +129,17 @@ module _ (D : ActionTheory) (P : Plan) where
 
     -- The shorter of two executions from one place begins the longer, which goes on from where the shorter ends.
     pub shared-beginning :
-      {ls ms : List Label} {q q₁ q₂ : P .State} {s s₁ s₂ : D .Situation} →
-      T* D P ls q s q₁ s₁ → T* D P ms q s q₂ s₂ → length ls ≤ length ms →
-      (ns : List Label) × (ms ≡ ls ++ ns) × T* D P ns q₁ s₁ q₂ s₂
+        {ls ms : List Label} {q q₁ q₂ : P .State} {s s₁ s₂ : D .Situation} →
+        T* D P ls q s q₁ s₁ → T* D P ms q s q₂ s₂ → length ls ≤ length ms →
+        (ns : List Label) × (ms ≡ ls ++ ns) × T* D P ns q₁ s₁ q₂ s₂
     shared-beginning a b h =
         let (ns, e, c) = shared-chain (execution→chain a) (execution→chain b) h in
         (ns, e, chain→execution c)
 
     -- Two executions from one place with the same number of steps are one.
     pub same-length-same-execution :
-      {ls ms : List Label} {q q₁ q₂ : P .State} {s s₁ s₂ : D .Situation} →
-      T* D P ls q s q₁ s₁ → T* D P ms q s q₂ s₂ → length ls ≡ length ms → (ls ≡ ms) × (q₁ ≡ q₂) × (s₁ ≡ s₂)
+        {ls ms : List Label} {q q₁ q₂ : P .State} {s s₁ s₂ : D .Situation} →
+        T* D P ls q s q₁ s₁ → T* D P ms q s q₂ s₂ → length ls ≡ length ms → (ls ≡ ms) × (q₁ ≡ q₂) × (s₁ ≡ s₂)
     same-length-same-execution {ls} {ms} {q₁ = q₁} {q₂ = q₂} {s₁ = s₁} {s₂ = s₂} a b h =
         go (shared-chain (execution→chain a) (execution→chain b) (omega arith))
       where
@@ -146,21 +149,22 @@ module _ (D : ActionTheory) (P : Plan) where
 
     -- No execution is longer than one that comes to a place with no step.
     pub longest :
-      {ls ms : List Label} {q q₁ q₂ : P .State} {s s₁ s₂ : D .Situation} →
-      T* D P ls q s q₁ s₁ → Halted q₁ s₁ → T* D P ms q s q₂ s₂ → length ms ≤ length ls
+        {ls ms : List Label} {q q₁ q₂ : P .State} {s s₁ s₂ : D .Situation} →
+        T* D P ls q s q₁ s₁ → Halted q₁ s₁ → T* D P ms q s q₂ s₂ → length ms ≤ length ls
     longest {ls} {ms} {q₁ = q₁} {q₂ = q₂} {s₁ = s₁} {s₂ = s₂} a halted b = go (decLe (length ls) (length ms))
       where
         after : (ns : List Label) × (ms ≡ ls ++ ns) × Chain ns q₁ s₁ q₂ s₂ → length ms ≤ length ls
         after ([], e, c) = omega (arith, simp length-append at (ap length e))
         after (n ∷ ns, e, c) = absurd (not-halted c halted)
+
         go : Dec (length ls ≤ length ms) → length ms ≤ length ls
         go (yes h) = after (shared-chain (execution→chain a) (execution→chain b) h)
         go (no h) = omega arith
 
     -- An execution that comes to a place with no step does not go on for ever.
     pub halted-not-forever :
-      {ls : List Label} {q q₁ : P .State} {s s₁ : D .Situation} →
-      T* D P ls q s q₁ s₁ → Halted q₁ s₁ → ¬ (Forever D P q s)
+        {ls : List Label} {q q₁ : P .State} {s s₁ : D .Situation} →
+        T* D P ls q s q₁ s₁ → Halted q₁ s₁ → ¬ (Forever D P q s)
     halted-not-forever {ls} a halted f =
         let (ms, e, b) = first-steps f (suc (length ls)) in
         let h = longest a halted b in

@@ -29,6 +29,7 @@ find-value f v (suc n) = go (find-value f v n) (ℕ-discrete (f n) v)
     at-last : Missing f v n → f n ≢ v → (i : ℕ) → i < suc n → Dec (i ≡ n) → f i ≢ v
     at-last missing differs i h (yes e) = λ q. differs (ap f (sym e) ∙ q)
     at-last missing differs i h (no d) = missing i (omega arith)
+
     go : Found f v n ⊎ Missing f v n → Dec (f n ≡ v) → Found f v (suc n) ⊎ Missing f v (suc n)
     go (inl (i, h, e)) d = inl (i, omega arith, e)
     go (inr missing) (yes e) = inl (n, omega arith, e)
@@ -47,8 +48,8 @@ module _ (n : ℕ) (f : ℕ → ℕ) (bounded : (i : ℕ) → i ≤ suc n → f 
   replaced-bounded i h (no d) = omega (arith, bounded i (omega arith))
 
   replaced-injective :
-    (i j : ℕ) → i ≤ n → j ≤ n → (d : Dec (f i ≡ n)) (e : Dec (f j ≡ n)) →
-    replaced (f (suc n)) n (f i) d ≡ replaced (f (suc n)) n (f j) e → f i ≡ f j
+      (i j : ℕ) → i ≤ n → j ≤ n → (d : Dec (f i ≡ n)) (e : Dec (f j ≡ n)) →
+      replaced (f (suc n)) n (f i) d ≡ replaced (f (suc n)) n (f j) e → f i ≡ f j
   unfolding replaced
   replaced-injective i j h k (yes d) (yes e) q = d ∙ sym e
   replaced-injective i j h k (yes d) (no e) q = absurd (new j (omega arith) (sym q))
@@ -60,6 +61,7 @@ module _ (n : ℕ) (f : ℕ → ℕ) (bounded : (i : ℕ) → i ≤ suc n → f 
     where
       g : ℕ → ℕ
       g i = replaced (f (suc n)) n (f i) (ℕ-discrete (f i) n)
+
       back : Repeat g n → Repeat f (suc n)
       back r =
           record {
@@ -68,8 +70,8 @@ module _ (n : ℕ) (f : ℕ → ℕ) (bounded : (i : ℕ) → i ≤ suc n → f 
             in-order = r .in-order;
             in-range = omega arith;
             same =
-              replaced-injective (r .earlier) (r .later) (omega arith) (omega arith)
-              (ℕ-discrete (f (r .earlier)) n) (ℕ-discrete (f (r .later)) n) (r .same)
+                replaced-injective (r .earlier) (r .later) (omega arith) (omega arith)
+                (ℕ-discrete (f (r .earlier)) n) (ℕ-discrete (f (r .later)) n) (r .same);
           }
 
 -- Of n + 1 numbers below n two are equal.

@@ -30,8 +30,8 @@ module _ (D : ActionTheory) (P : Plan) where
   pub data T* : List Label → P .State → D .Situation → P .State → D .Situation → Type 0 where
     here : {q : P .State} {s : D .Situation} → T* [] q s q s
     join :
-      {m n : List Label} {q q″ q′ : P .State} {s s″ s′ : D .Situation} →
-      T* m q s q″ s″ → T* n q″ s″ q′ s′ → T* (m ++ n) q s q′ s′
+        {m n : List Label} {q q″ q′ : P .State} {s s″ s′ : D .Situation} →
+        T* m q s q″ s″ → T* n q″ s″ q′ s′ → T* (m ++ n) q s q′ s′
     step : {l : Label} {q q′ : P .State} {s s′ : D .Situation} → Step q s l q′ s′ → T* (l ∷ []) q s q′ s′
 
   -- The execution goes on for ever: a sequence without end, each of whose members comes from the one before by a step.

@@ -73,29 +73,29 @@ module _ (t : Tables) where
 
   module _ (p : Pair) (line : Line) where
     means-judged :
-      p .state ≡ final t → (b : Bool) → t .goal (p .world) (column t line) ≡ b →
-      MoveMeans p line (ends (cond b Goal (Failure GoalFalse)))
+        p .state ≡ final t → (b : Bool) → t .goal (p .world) (column t line) ≡ b →
+        MoveMeans p line (ends (cond b Goal (Failure GoalFalse)))
     unfolding MoveMeans Ends
     means-judged e true g = (e, g)
     means-judged e false g = (e, λ h. let z : _≡_ {A = ℕ} 0 1 = cc in omega arith)
 
     module _ (live : p .state ≢ final t) where
       step-made :
-        {w : WorldState} {r : Result} {more : List Outcome} {q : ProgramState} {line′ : Line} →
-        outcomes (p .state) (p .world) line ≡ outcome w r ∷ more → t .target (p .state) r ≡ some q →
-        line′ ≡ restAfter t (t .action (p .state)) line → StepAt p line (did (t .action (p .state)) r) (pair q w) line′
+          {w : WorldState} {r : Result} {more : List Outcome} {q : ProgramState} {line′ : Line} →
+          outcomes (p .state) (p .world) line ≡ outcome w r ∷ more → t .target (p .state) r ≡ some q →
+          line′ ≡ restAfter t (t .action (p .state)) line → StepAt p line (did (t .action (p .state)) r) (pair q w) line′
       step-made {w} {r} {more} e f rest =
           record {
             live = live;
             acts = refl;
             does = (first-in (outcome w r) (outcomes (p .state) (p .world) line) more e, rest);
-            branch = f
+            branch = f;
           }
 
       means-branched :
-        (w : WorldState) (r : Result) (more : List Outcome) → outcomes (p .state) (p .world) line ≡ outcome w r ∷ more →
-        (target : Option ProgramState) → t .target (p .state) r ≡ target →
-        (b : Bool) → movesOn t (t .action (p .state)) ≡ b → MoveMeans p line (branched t (t .action (p .state)) w target)
+          (w : WorldState) (r : Result) (more : List Outcome) → outcomes (p .state) (p .world) line ≡ outcome w r ∷ more →
+          (target : Option ProgramState) → t .target (p .state) r ≡ target →
+          (b : Bool) → movesOn t (t .action (p .state)) ≡ b → MoveMeans p line (branched t (t .action (p .state)) w target)
       unfolding MoveMeans Ends
       means-branched w r more e none f b m =
           let rest = restAfter t (t .action (p .state)) line in
@@ -104,7 +104,7 @@ module _ (t : Tables) where
       means-branched w r more e (some q) f false m = rw m (did (t .action (p .state)) r, step-made e f (rw m))
 
       means-tried :
-        (found : List Outcome) → outcomes (p .state) (p .world) line ≡ found → MoveMeans p line (tried t (p .state) found)
+          (found : List Outcome) → outcomes (p .state) (p .world) line ≡ found → MoveMeans p line (tried t (p .state) found)
       unfolding MoveMeans Ends
       means-tried [] e =
           (live, λ (r, s′, does). none-in-empty (outcome (s′ .world) r) (outcomes (p .state) (p .world) line) e (does .0))
@@ -117,9 +117,9 @@ module _ (t : Tables) where
     act-means = go (isFinal t (p .state)) refl
       where
         go :
-          (b : Bool) → isFinal t (p .state) ≡ b →
-          MoveMeans p line
-          (cond b (ends (judged t (p .world) (column t line))) (tried t (p .state) (outcomes (p .state) (p .world) line)))
+            (b : Bool) → isFinal t (p .state) ≡ b →
+            MoveMeans p line
+            (cond b (ends (judged t (p .world) (column t line))) (tried t (p .state) (outcomes (p .state) (p .world) line)))
         go true e =
             means-judged (ap programState (eqb-true (p .state .0) (t .states) e)) (t .goal (p .world) (column t line)) refl
         go false e =
@@ -138,14 +138,14 @@ module _ (t : Tables) where
   module _ (wf : WellFormed t) where
     -- An outcome of the action is its only one.
     only-outcome :
-      (q : ProgramState) (s : Situation) (w : WorldState) (r : Result) → outcome w r ∈ outcomes q (s .world) (s .rest) →
-      outcomes q (s .world) (s .rest) ≡ outcome w r ∷ []
+        (q : ProgramState) (s : Situation) (w : WorldState) (r : Result) → outcome w r ∈ outcomes q (s .world) (s .rest) →
+        outcomes q (s .world) (s .rest) ≡ outcome w r ∷ []
     only-outcome q s = one-outcome t wf (t .action q) (s .world) (column t (s .rest))
 
     -- Where the execution ends there is no step.
     pub ends-halted :
-      (x : Ending) (q : ProgramState) (s : Situation) → Ends (lampProblem t) (planOf t) x q s →
-      Halted (lampTheory t) (planOf t) q s
+        (x : Ending) (q : ProgramState) (s : Situation) → Ends (lampProblem t) (planOf t) x q s →
+        Halted (lampTheory t) (planOf t) q s
     unfolding Ends
     ends-halted Goal q s (e, goal) l q′ s′ x = x .live e
     ends-halted (Failure NotLegal) q s (live, illegal) l q′ s′ x = illegal (resultOf l, s′, x .does)
@@ -159,8 +159,8 @@ module _ (t : Tables) where
 
     -- Where the execution ends, the action ends the run in the same way.
     ends-acts :
-      (x : Ending) (q : ProgramState) (s : Situation) → Ends (lampProblem t) (planOf t) x q s →
-      act t (pair q (s .world)) (column t (s .rest)) ≡ ends x
+        (x : Ending) (q : ProgramState) (s : Situation) → Ends (lampProblem t) (planOf t) x q s →
+        act t (pair q (s .world)) (column t (s .rest)) ≡ ends x
     unfolding Ends act
     ends-acts Goal q s (e, goal) = rw (is-final q e, goal)
     ends-acts (Failure NotLegal) q s (live, illegal) = rw (not-final q live) (go (outcomes q (s .world) (s .rest)) refl)
@@ -178,8 +178,8 @@ module _ (t : Tables) where
 
     -- The execution ends in one way.
     pub one-ending :
-      (x x′ : Ending) (q : ProgramState) (s : Situation) →
-      Ends (lampProblem t) (planOf t) x q s → Ends (lampProblem t) (planOf t) x′ q s → x ≡ x′
+        (x x′ : Ending) (q : ProgramState) (s : Situation) →
+        Ends (lampProblem t) (planOf t) x q s → Ends (lampProblem t) (planOf t) x′ q s → x ≡ x′
     one-ending x x′ q s h h′ = let e = ends-acts x q s h in let f = ends-acts x′ q s h′ in cc
 
     -- ---- where an action stays

@@ -63,15 +63,15 @@ module _ (t : Tables) (c : ℕ) where
 
 -- A walk from p at the first lamp of a line, or at the line's end, that has made S·W steps there.
 module _
-  (t : Tables) (wf : WellFormed t) (line : Line) (p : Pair)
-  (range : InRange t p) (lingers : Lingers t (column t line) (t .states * t .worlds) p) where
+    (t : Tables) (wf : WellFormed t) (line : Line) (p : Pair)
+    (range : InRange t p) (lingers : Lingers t (column t line) (t .states * t .worlds) p) where
   -- The pair after i of its steps.
   abbrev pairAfter : ℕ → Pair
   pairAfter = orbit t (column t line) p
 
   step-of-stay :
-    (i : ℕ) → act t (pairAfter i) (column t line) ≡ stays (pairAfter (suc i)) →
-    (l : Label) × StepAt t (pairAfter i) line l (pairAfter (suc i)) line
+      (i : ℕ) → act t (pairAfter i) (column t line) ≡ stays (pairAfter (suc i)) →
+      (l : Label) × StepAt t (pairAfter i) line l (pairAfter (suc i)) line
   step-of-stay i e = unfold MoveMeans in subst (λ m. MoveMeans t (pairAfter i) line m) e (act-means t (pairAfter i) line)
 
   pairs-in-range : (i : ℕ) → i ≤ t .states * t .worlds → InRange t (pairAfter i)
@@ -105,9 +105,10 @@ module _
     where
       next : (j : ℕ) → pairAfter i ≡ pairAfter j → pairAfter (suc i) ≡ pairAfter (suc j)
       next = orbit-next t (column t line) p i
+
       go :
-        (j : ℕ) × (j < meeting .later) × (pairAfter i ≡ pairAfter j) →
-        (j : ℕ) × (j < meeting .later) × (pairAfter (suc i) ≡ pairAfter j)
+          (j : ℕ) × (j < meeting .later) × (pairAfter i ≡ pairAfter j) →
+          (j : ℕ) × (j < meeting .later) × (pairAfter (suc i) ≡ pairAfter j)
       go (j, h, e) = at-last (decLt (suc j) (meeting .later))
         where
           at-last : Dec (suc j < meeting .later) → (j : ℕ) × (j < meeting .later) × (pairAfter (suc i) ≡ pairAfter j)
@@ -130,13 +131,13 @@ module _
         situations = λ i. situation (pairAfter i .world) line;
         labels = λ i. step-of-stay i (stays-for-ever i) .0;
         begins = unfold orbit in (refl, refl);
-        steps = λ i. step-of-stay i (stays-for-ever i) .1
+        steps = λ i. step-of-stay i (stays-for-ever i) .1;
       }
 
   -- The execution from p passes no lamp.
   pub lingers-passes-none :
-    (ms : List Label) (q : ProgramState) (s : Situation) →
-    T* (lampTheory t) (planOf t) ms (p .state) (situation (p .world) line) q s → s .rest ≡ line
+      (ms : List Label) (q : ProgramState) (s : Situation) →
+      T* (lampTheory t) (planOf t) ms (p .state) (situation (p .world) line) q s → s .rest ≡ line
   unfolding lingers-forever
   lingers-passes-none ms q s a =
       let (ls, e, b) = first-steps (lampTheory t) (planOf t) lingers-forever (length ms) in

@@ -65,7 +65,7 @@ module _ (t : Tables) (n c : ℕ) (p₀ : Pair) where
 
     -- All n steps are counted: the run ends, as it does in the final state or else with failure 3.
     pub walk-owes-spent :
-      n ≤ k → ended (cond (isFinal t (p .state)) (judged t (p .world) c) (Failure Circles)) k ≡ walk t n p₀ c
+        n ≤ k → ended (cond (isFinal t (p .state)) (judged t (p .world) c) (Failure Circles)) k ≡ walk t n p₀ c
     unfolding WalkOwes
     walk-owes-spent h =
         let none-left : n - k ≡ 0 = omega arith in
@@ -86,20 +86,20 @@ module _ (t : Tables) (end : ℕ) (lamps₀ : List ℕ) (p₀ : Pair) where
   module _ (k : ℕ) (lamps : List ℕ) (p : Pair) (owes : RunOwes t end lamps₀ p₀ k lamps p) where
     -- The walk passes the lamp: the run goes on behind it.
     pub run-owes-passes :
-      0 < length lamps → (p′ : Pair) (j : ℕ) → arrived p′ j ≡ lampWalk t p (column t (lineOf end lamps)) →
-      RunOwes t end lamps₀ p₀ (k + j) (drop 1 lamps) p′
+        0 < length lamps → (p′ : Pair) (j : ℕ) → arrived p′ j ≡ lampWalk t p (column t (lineOf end lamps)) →
+        RunOwes t end lamps₀ p₀ (k + j) (drop 1 lamps) p′
     unfolding RunOwes
     run-owes-passes h p′ j e = owes ∙ go lamps h e
       where
         go :
-          (l : List ℕ) → 0 < length l → arrived p′ j ≡ lampWalk t p (column t (lineOf end l)) →
-          runAfter k (along t end l p) ≡ runAfter (k + j) (along t end (drop 1 l) p′)
+            (l : List ℕ) → 0 < length l → arrived p′ j ≡ lampWalk t p (column t (lineOf end l)) →
+            runAfter k (along t end l p) ≡ runAfter (k + j) (along t end (drop 1 l) p′)
         go [] h e = absurd (omega arith)
         go (kind ∷ l) h e = rw (along-passes t end kind l p p′ j (sym e)) (run-after-sum k j (along t end l p′))
 
     -- The walk ends the run.
     pub run-owes-ends :
-      (x : Ending) (j : ℕ) → ended x j ≡ lampWalk t p (column t (lineOf end lamps)) → ran x (k + j) ≡ along t end lamps₀ p₀
+        (x : Ending) (j : ℕ) → ended x j ≡ lampWalk t p (column t (lineOf end lamps)) → ran x (k + j) ≡ along t end lamps₀ p₀
     unfolding RunOwes
     run-owes-ends x j e = sym (owes ∙ (rw (along-ends t end lamps p x j (sym e))))
 

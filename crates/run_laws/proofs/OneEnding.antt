@@ -33,8 +33,8 @@ module _ (t : Tables) (wf : WellFormed t) (start : WorldState) (line : Line) whe
 
   -- An execution comes to rest, or it circles.
   rests-or-circles :
-    (x : Ending) (k : ℕ) → Comes t x k start line →
-    RestsAfter t x k start line ⊎ ((x ≡ Failure Circles) × CirclesAfter t k start line)
+      (x : Ending) (k : ℕ) → Comes t x k start line →
+      RestsAfter t x k start line ⊎ ((x ≡ Failure Circles) × CirclesAfter t k start line)
   unfolding Comes
   rests-or-circles Goal k c = inl c
   rests-or-circles (Failure NotLegal) k c = inl c
@@ -50,12 +50,12 @@ module _ (t : Tables) (wf : WellFormed t) (start : WorldState) (line : Line) whe
 
   -- One execution that comes to rest is no longer than another, and so they are one.
   not-longer :
-    {x x′ : Ending} {k k′ : ℕ} (r : RestsAfter t x k start line) (r′ : RestsAfter t x′ k′ start line) →
-    length (r′ .labels) ≤ length (r .labels)
+      {x x′ : Ending} {k k′ : ℕ} (r : RestsAfter t x k start line) (r′ : RestsAfter t x′ k′ start line) →
+      length (r′ .labels) ≤ length (r .labels)
   not-longer r r′ = longest D P (steps-determined t wf) (r .execution) (halted r) (r′ .execution)
 
   rests-once :
-    {x x′ : Ending} {k k′ : ℕ} → RestsAfter t x k start line → RestsAfter t x′ k′ start line → (x ≡ x′) × (k ≡ k′)
+      {x x′ : Ending} {k k′ : ℕ} → RestsAfter t x k start line → RestsAfter t x′ k′ start line → (x ≡ x′) × (k ≡ k′)
   rests-once {x} {x′} r r′ =
       let same-length : length (r .labels) ≡ length (r′ .labels) = omega (arith, not-longer r r′, not-longer r′ r) in
       let same = same-length-same-execution D P (steps-determined t wf) (r .execution) (r′ .execution) same-length in
@@ -76,8 +76,8 @@ module _ (t : Tables) (wf : WellFormed t) (start : WorldState) (line : Line) whe
   module _ (of : Run-of t start line) {k k′ : ℕ} (c : CirclesAfter t k start line) (c′ : CirclesAfter t k′ start line) where
     -- After the last arrival of c no step moves on.
     no-later-arrival :
-      (ms : List Label) (l : Label) → LastStep D P ms l (t .first) (situation start line) (c′ .state) (c′ .at) →
-      movesOn t (actionOf l) ≡ true → length (c .labels) ≤ length ms → ⊥
+        (ms : List Label) (l : Label) → LastStep D P ms l (t .first) (situation start line) (c′ .state) (c′ .at) →
+        movesOn t (actionOf l) ≡ true → length (c .labels) ≤ length ms → ⊥
     no-later-arrival ms l b moves h =
         let (ns, e, a) = shared-beginning D P (steps-determined t wf) (c .execution) (b .before) h in
         let before : b .at .rest ≡ c .at .rest = c .passes-none ns (b .state) (b .at) a in
@@ -101,12 +101,12 @@ module _ (t : Tables) (wf : WellFormed t) (start : WorldState) (line : Line) whe
 
   -- Of one execution one ending and one count are true.
   pub comes-once :
-    Run-of t start line → (x x′ : Ending) (k k′ : ℕ) → Comes t x k start line → Comes t x′ k′ start line → (x ≡ x′) × (k ≡ k′)
+      Run-of t start line → (x x′ : Ending) (k k′ : ℕ) → Comes t x k start line → Comes t x′ k′ start line → (x ≡ x′) × (k ≡ k′)
   comes-once of x x′ k k′ c c′ = go (rests-or-circles x k c) (rests-or-circles x′ k′ c′)
     where
       go :
-        RestsAfter t x k start line ⊎ ((x ≡ Failure Circles) × CirclesAfter t k start line) →
-        RestsAfter t x′ k′ start line ⊎ ((x′ ≡ Failure Circles) × CirclesAfter t k′ start line) → (x ≡ x′) × (k ≡ k′)
+          RestsAfter t x k start line ⊎ ((x ≡ Failure Circles) × CirclesAfter t k start line) →
+          RestsAfter t x′ k′ start line ⊎ ((x′ ≡ Failure Circles) × CirclesAfter t k′ start line) → (x ≡ x′) × (k ≡ k′)
       go (inl r) (inl r′) = rests-once r r′
       go (inl r) (inr (e′, d′)) = absurd (rests-not-forever r (circles-from-start d′))
       go (inr (e, d)) (inl r′) = absurd (rests-not-forever r′ (circles-from-start d))
@@ -115,5 +115,5 @@ module _ (t : Tables) (wf : WellFormed t) (start : WorldState) (line : Line) whe
 
   -- An execution that goes on for ever has no ending but failure 3.
   pub forever-circles :
-    Forever D P (t .first) (situation start line) → (x : Ending) (k : ℕ) → Comes t x k start line → x ≡ Failure Circles
+      Forever D P (t .first) (situation start line) → (x : Ending) (k : ℕ) → Comes t x k start line → x ≡ Failure Circles
   forever-circles f x k c = ⊎-elim (λ r. absurd (rests-not-forever r f)) (λ (e, d). e) (rests-or-circles x k c)

@@ -57,8 +57,8 @@ module _ (t : Tables) (wf : WellFormed t) (start : WorldState) (line : Line) (of
 
     -- The walk ends the run there.
     ended-comes :
-      (x : Ending) (k : ℕ) → WalkMeans t (rest lamps) (t .states * t .worlds) p (ended x k) →
-      Comes t x (length ls + k) start line
+        (x : Ending) (k : ℕ) → WalkMeans t (rest lamps) (t .states * t .worlds) p (ended x k) →
+        Comes t x (length ls + k) start line
     ended-comes x k (rests r) =
         rests-comes x (length ls + k) (record {
           labels = ls ++ r .labels;
@@ -66,7 +66,7 @@ module _ (t : Tables) (wf : WellFormed t) (start : WorldState) (line : Line) (of
           at = situation (r .last .world) (rest lamps);
           execution = join (came .execution) (r .execution);
           ends = r .ends;
-          count = omega (arith, length-append ls (r .labels), r .count)
+          count = omega (arith, length-append ls (r .labels), r .count);
         })
     ended-comes x k (lingers r) = unfold Comes in
         record {
@@ -77,19 +77,19 @@ module _ (t : Tables) (wf : WellFormed t) (start : WorldState) (line : Line) (of
           arrives = came .arrival;
           passes-none = lingers-passes-none t wf (rest lamps) p range r;
           forever = lingers-forever t wf (rest lamps) p range r;
-          count = refl
+          count = refl;
         }
 
   -- The walk passes the lamp, to p′.
   module _
-    (p p′ : Pair) (kind k : ℕ) (lamps : List ℕ) (ls : List Label) (came : Comes-to p (kind ∷ lamps) ls)
-    (a : Arrives t p (rest (kind ∷ lamps)) p′ k) where
+      (p p′ : Pair) (kind k : ℕ) (lamps : List ℕ) (ls : List Label) (came : Comes-to p (kind ∷ lamps) ls)
+      (a : Arrives t p (rest (kind ∷ lamps)) p′ k) where
     -- The execution has come to the lamps behind it.
     passed-to : Comes-to p′ lamps ((ls ++ a .labels) ++ (a .label ∷ []))
     passed-to =
         record {
           execution = join (join (came .execution) (a .staying)) (step (a .passing));
-          arrival = inr (ls ++ a .labels, a .label, refl, a .moves-on)
+          arrival = inr (ls ++ a .labels, a .label, refl, a .moves-on);
         }
 
     passed-count : length ((ls ++ a .labels) ++ (a .label ∷ [])) ≡ length ls + k
@@ -97,12 +97,12 @@ module _ (t : Tables) (wf : WellFormed t) (start : WorldState) (line : Line) (of
 
   -- From where the execution has come to, the run says what is true of it.
   along-comes :
-    (lamps : List ℕ) (p : Pair) (ls : List Label) → Comes-to p lamps ls → RunComes (length ls) (along t (line .end) lamps p)
+      (lamps : List ℕ) (p : Pair) (ls : List Label) → Comes-to p lamps ls → RunComes (length ls) (along t (line .end) lamps p)
   along-comes [] p ls came = go (lampWalk t p (line .end)) refl (walk-means t (t .states * t .worlds) p (rest []))
     where
       go :
-        (v : Walk) → lampWalk t p (line .end) ≡ v → WalkMeans t (rest []) (t .states * t .worlds) p v →
-        RunComes (length ls) (along t (line .end) [] p)
+          (v : Walk) → lampWalk t p (line .end) ≡ v → WalkMeans t (rest []) (t .states * t .worlds) p v →
+          RunComes (length ls) (along t (line .end) [] p)
       go (ended x k) e m = rw (along-ends t (line .end) [] p x k e) (ended-comes p [] ls came x k m)
       go (arrived p′ k) e m =
           let h = arrived-at-lamp t wf (t .states * t .worlds) p p′ (rest []) k (of .fits .ended) (sym e) in
@@ -112,9 +112,9 @@ module _ (t : Tables) (wf : WellFormed t) (start : WorldState) (line : Line) (of
       (walk-means t (t .states * t .worlds) p (rest (kind ∷ lamps)))
     where
       go :
-        ((p′ : Pair) (ms : List Label) → Comes-to p′ lamps ms → RunComes (length ms) (along t (line .end) lamps p′)) →
-        (v : Walk) → lampWalk t p (lampColumn t kind) ≡ v → WalkMeans t (rest (kind ∷ lamps)) (t .states * t .worlds) p v →
-        RunComes (length ls) (along t (line .end) (kind ∷ lamps) p)
+          ((p′ : Pair) (ms : List Label) → Comes-to p′ lamps ms → RunComes (length ms) (along t (line .end) lamps p′)) →
+          (v : Walk) → lampWalk t p (lampColumn t kind) ≡ v → WalkMeans t (rest (kind ∷ lamps)) (t .states * t .worlds) p v →
+          RunComes (length ls) (along t (line .end) (kind ∷ lamps) p)
       go after (ended x k) e m =
           rw (along-ends t (line .end) (kind ∷ lamps) p x k e) (ended-comes p (kind ∷ lamps) ls came x k m)
       go after (arrived p′ k) e (arrives a) =

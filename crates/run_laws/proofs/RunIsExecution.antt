@@ -33,12 +33,13 @@ unfolding Comes
 circles-forever t wf start line of = (forward, λ f. back f (run t start line) refl)
   where
     forward :
-      (k : ℕ) × (run t start line ≡ ran (Failure Circles) k) →
-      Forever (lampTheory t) (planOf t) (t .first) (situation start line)
+        (k : ℕ) × (run t start line ≡ ran (Failure Circles) k) →
+        Forever (lampTheory t) (planOf t) (t .first) (situation start line)
     forward (k, e) = circles-from-start t wf start line (run-comes t wf start line of (Failure Circles) k e)
+
     back :
-      Forever (lampTheory t) (planOf t) (t .first) (situation start line) → (r : Run) → run t start line ≡ r →
-      (k : ℕ) × (run t start line ≡ ran (Failure Circles) k)
+        Forever (lampTheory t) (planOf t) (t .first) (situation start line) → (r : Run) → run t start line ≡ r →
+        (k : ℕ) × (run t start line ≡ ran (Failure Circles) k)
     back f (ran x k) e =
         let g = forever-circles t wf start line f x k (run-comes t wf start line of x k e) in
         (k, cc)

@@ -23,16 +23,16 @@ runAfter k (ran x n) = ran x (k + n)
 module _ (t : Tables) where
   -- The walk at the first lamp, or at the line's end, ends the run.
   pub along-ends :
-    (end : ℕ) (lamps : List ℕ) (p : Pair) (x : Ending) (k : ℕ) →
-    lampWalk t p (column t (lineOf end lamps)) ≡ ended x k → along t end lamps p ≡ ran x k
+      (end : ℕ) (lamps : List ℕ) (p : Pair) (x : Ending) (k : ℕ) →
+      lampWalk t p (column t (lineOf end lamps)) ≡ ended x k → along t end lamps p ≡ ran x k
   unfolding along
   along-ends end [] p x k e = rw (e, along)
   along-ends end (kind ∷ lamps) p x k e = rw (e, along)
 
   -- The walk at the first lamp passes it.
   pub along-passes :
-    (end kind : ℕ) (lamps : List ℕ) (p p′ : Pair) (k : ℕ) →
-    lampWalk t p (lampColumn t kind) ≡ arrived p′ k → along t end (kind ∷ lamps) p ≡ runAfter k (along t end lamps p′)
+      (end kind : ℕ) (lamps : List ℕ) (p p′ : Pair) (k : ℕ) →
+      lampWalk t p (lampColumn t kind) ≡ arrived p′ k → along t end (kind ∷ lamps) p ≡ runAfter k (along t end lamps p′)
   along-passes end kind lamps p p′ k e = go (along t end lamps p′) refl
     where
       go : (r : Run) → along t end lamps p′ ≡ r → along t end (kind ∷ lamps) p ≡ runAfter k r
@@ -67,12 +67,13 @@ module _ (t : Tables) where
       go after (passes p′) e = rw (walk-passes t n p p′ c e) (omega arith)
 
   along-bounded :
-    (end : ℕ) (lamps : List ℕ) (p : Pair) →
-    runSteps (along t end lamps p) ≤ suc (length lamps) * (t .states * t .worlds)
+      (end : ℕ) (lamps : List ℕ) (p : Pair) →
+      runSteps (along t end lamps p) ≤ suc (length lamps) * (t .states * t .worlds)
   along-bounded end [] p = go (lampWalk t p end) refl
     where
       most : walkSteps (lampWalk t p end) ≤ t .states * t .worlds
       most = walk-bounded (t .states * t .worlds) p end
+
       go : (v : Walk) → lampWalk t p end ≡ v → runSteps (along t end [] p) ≤ 1 * (t .states * t .worlds)
       go (ended x k) e = rw (along-ends t end [] p x k e) (omega (arith, rw e at most))
       go (arrived p′ k) e = unfold along in rw (e, along) (omega (arith, rw e at most))
@@ -80,10 +81,11 @@ module _ (t : Tables) where
     where
       most : walkSteps (lampWalk t p (lampColumn t kind)) ≤ t .states * t .worlds
       most = walk-bounded (t .states * t .worlds) p (lampColumn t kind)
+
       go :
-        ((p′ : Pair) → runSteps (along t end lamps p′) ≤ suc (length lamps) * (t .states * t .worlds)) →
-        (v : Walk) → lampWalk t p (lampColumn t kind) ≡ v →
-        runSteps (along t end (kind ∷ lamps) p) ≤ suc (suc (length lamps)) * (t .states * t .worlds)
+          ((p′ : Pair) → runSteps (along t end lamps p′) ≤ suc (length lamps) * (t .states * t .worlds)) →
+          (v : Walk) → lampWalk t p (lampColumn t kind) ≡ v →
+          runSteps (along t end (kind ∷ lamps) p) ≤ suc (suc (length lamps)) * (t .states * t .worlds)
       go after (ended x k) e =
           rw (along-ends t end (kind ∷ lamps) p x k e)
           (omega (arith, rw e at most, suc-mul (suc (length lamps)) (t .states * t .worlds)))

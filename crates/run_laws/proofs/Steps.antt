@@ -38,8 +38,8 @@ same-label (did a r) (did b u) e f = cc
 module _ (t : Tables) (wf : WellFormed t) where
   -- An outcome of a cell is its only one.
   pub one-outcome :
-    (a : Action) (w : WorldState) (c : ℕ) (w′ : WorldState) (r : Result) →
-    outcome w′ r ∈ t .cell a w c → t .cell a w c ≡ outcome w′ r ∷ []
+      (a : Action) (w : WorldState) (c : ℕ) (w′ : WorldState) (r : Result) →
+      outcome w′ r ∈ t .cell a w c → t .cell a w c ≡ outcome w′ r ∷ []
   one-outcome a w c w′ r = only-one (outcome w′ r) (t .cell a w c) (wf .single a w c)
 
   -- A place has at most one step.
@@ -47,9 +47,9 @@ module _ (t : Tables) (wf : WellFormed t) where
   steps-determined = record { one-step = one-step }
     where
       one-step :
-        {l m : Label} {q q₁ q₂ : ProgramState} {s s₁ s₂ : Situation} →
-        Step (lampTheory t) (planOf t) q s l q₁ s₁ → Step (lampTheory t) (planOf t) q s m q₂ s₂ →
-        (l ≡ m) × (q₁ ≡ q₂) × (s₁ ≡ s₂)
+          {l m : Label} {q q₁ q₂ : ProgramState} {s s₁ s₂ : Situation} →
+          Step (lampTheory t) (planOf t) q s l q₁ s₁ → Step (lampTheory t) (planOf t) q s m q₂ s₂ →
+          (l ≡ m) × (q₁ ≡ q₂) × (s₁ ≡ s₂)
       one-step {l} {m} {q} {q₁} {q₂} {s} {s₁} {s₂} x y =
           let e = one-outcome (t .action q) (s .world) (column t (s .rest)) (s₁ .world) (resultOf l) (x .does .0) in
           let f = one-outcome (t .action q) (s .world) (column t (s .rest)) (s₂ .world) (resultOf m) (y .does .0) in
@@ -60,26 +60,26 @@ module _ (t : Tables) (wf : WellFormed t) where
 
   -- A step comes to a pair of the tables.
   pub step-in-range :
-    {l : Label} {q q′ : ProgramState} {s s′ : Situation} → Step (lampTheory t) (planOf t) q s l q′ s′ →
-    InRange t (pair q′ (s′ .world))
+      {l : Label} {q q′ : ProgramState} {s s′ : Situation} → Step (lampTheory t) (planOf t) q s l q′ s′ →
+      InRange t (pair q′ (s′ .world))
   step-in-range {l} {q} {q′} {s} {s′} x =
       record {
         state-range = wf .target-range q q′ (resultOf l) (x .branch) .1;
-        world-range = wf .next-range (t .action q) (s .world) (s′ .world) (column t (s .rest)) (resultOf l) (x .does .0)
+        world-range = wf .next-range (t .action q) (s .world) (s′ .world) (column t (s .rest)) (resultOf l) (x .does .0);
       }
 
   -- An execution keeps to the pairs of the tables.
   pub execution-in-range :
-    {ls : List Label} {q q′ : ProgramState} {s s′ : Situation} → T* (lampTheory t) (planOf t) ls q s q′ s′ →
-    InRange t (pair q (s .world)) → InRange t (pair q′ (s′ .world))
+      {ls : List Label} {q q′ : ProgramState} {s s′ : Situation} → T* (lampTheory t) (planOf t) ls q s q′ s′ →
+      InRange t (pair q (s .world)) → InRange t (pair q′ (s′ .world))
   execution-in-range here h = h
   execution-in-range (join a b) h = execution-in-range b (execution-in-range a h)
   execution-in-range (step x) h = step-in-range x
 
   -- An execution keeps the line's end.
   pub end-kept :
-    {ls : List Label} {q q′ : ProgramState} {s s′ : Situation} → T* (lampTheory t) (planOf t) ls q s q′ s′ →
-    s′ .rest .end ≡ s .rest .end
+      {ls : List Label} {q q′ : ProgramState} {s s′ : Situation} → T* (lampTheory t) (planOf t) ls q s q′ s′ →
+      s′ .rest .end ≡ s .rest .end
   end-kept here = refl
   end-kept (join a b) = end-kept b ∙ end-kept a
   end-kept (step {q = q} {s = s} x) = ap (λ line. line .end) (x .does .1) ∙ kept (movesOn t (t .action q))
@@ -90,14 +90,16 @@ module _ (t : Tables) (wf : WellFormed t) where
 
   -- A step that moves on leaves one lamp fewer: at the line's end there is no such step.
   pub step-passes :
-    {l : Label} {q q′ : ProgramState} {s s′ : Situation} → Step (lampTheory t) (planOf t) q s l q′ s′ →
-    movesOn t (actionOf l) ≡ true → s .rest .end < endKinds t → length (s .rest .lamps) ≡ suc (length (s′ .rest .lamps))
+      {l : Label} {q q′ : ProgramState} {s s′ : Situation} → Step (lampTheory t) (planOf t) q s l q′ s′ →
+      movesOn t (actionOf l) ≡ true → s .rest .end < endKinds t → length (s .rest .lamps) ≡ suc (length (s′ .rest .lamps))
   step-passes {l} {q} {q′} {s} {s′} x m h = go (s .rest .lamps) refl
     where
       moves : movesOn t (t .action q) ≡ true
       moves = rw (x .acts) at m
+
       passes : s′ .rest ≡ passed (s .rest)
       passes = rw moves at (x .does .1)
+
       go : (lamps : List ℕ) → s .rest .lamps ≡ lamps → length lamps ≡ suc (length (s′ .rest .lamps))
       go [] e =
           let c : column t (s .rest) ≡ s .rest .end = rw e in

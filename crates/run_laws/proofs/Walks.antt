@@ -46,8 +46,8 @@ walkAfter k (arrived p n) = arrived p (k + n)
 module _ (t : Tables) where
   -- No step is left: the run ends, as it does in the final state or else with failure 3.
   pub walk-spent :
-    (p : Pair) (c : ℕ) (b : Bool) → isFinal t (p .state) ≡ b →
-    walk t zero p c ≡ ended (cond b (judged t (p .world) c) (Failure Circles)) 0
+      (p : Pair) (c : ℕ) (b : Bool) → isFinal t (p .state) ≡ b →
+      walk t zero p c ≡ ended (cond b (judged t (p .world) c) (Failure Circles)) 0
   unfolding walk
   walk-spent p c b e = rw e
 
@@ -112,7 +112,7 @@ module _ (t : Tables) where
           last = r .last;
           execution = join (step stay) (r .execution);
           ends = r .ends;
-          count = omega (arith, r .count)
+          count = omega (arith, r .count);
         }
 
     arrives-later : {p″ : Pair} {k : ℕ} → Arrives p′ line p″ k → Arrives p line p″ (1 + k)
@@ -124,12 +124,12 @@ module _ (t : Tables) where
           label = r .label;
           passing = r .passing;
           moves-on = r .moves-on;
-          count = omega (arith, r .count)
+          count = omega (arith, r .count);
         }
 
     means-later :
-      {n : ℕ} {v : Walk} → act t p (column t line) ≡ stays p′ →
-      WalkMeans line n p′ v → WalkMeans line (suc n) p (walkAfter 1 v)
+        {n : ℕ} {v : Walk} → act t p (column t line) ≡ stays p′ →
+        WalkMeans line n p′ v → WalkMeans line (suc n) p (walkAfter 1 v)
     means-later e (rests r) = rests (rests-later r)
     means-later e (lingers r) = rw one-add (lingers (stays-on e r))
     means-later e (arrives r) = arrives (arrives-later r)
@@ -150,9 +150,9 @@ module _ (t : Tables) where
   walk-means (suc n) p line = go (λ p′. walk-means n p′ line) (act t p (column t line)) refl (act-means t p line)
     where
       go :
-        ((p′ : Pair) → WalkMeans line n p′ (walk t n p′ (column t line))) →
-        (m : Move) → act t p (column t line) ≡ m → MoveMeans t p line m →
-        WalkMeans line (suc n) p (walk t (suc n) p (column t line))
+          ((p′ : Pair) → WalkMeans line n p′ (walk t n p′ (column t line))) →
+          (m : Move) → act t p (column t line) ≡ m → MoveMeans t p line m →
+          WalkMeans line (suc n) p (walk t (suc n) p (column t line))
       go after (ends x) e h = rw (walk-ends n p (column t line) x e) (rests (rests-at-once h refl))
       go after (stays p′) e (l, x) = rw (walk-stays n p p′ (column t line) e) (means-later x e (after p′))
       go after (passes p′) e (l, x, m) = rw (walk-passes n p p′ (column t line) e)
@@ -170,8 +170,8 @@ module _ (t : Tables) where
 
     -- A walk passes a lamp only where there is one.
     pub arrived-at-lamp :
-      (n : ℕ) (p p′ : Pair) (line : Line) (k : ℕ) → line .end < endKinds t →
-      arrived p′ k ≡ walk t n p (column t line) → 0 < length (line .lamps)
+        (n : ℕ) (p p′ : Pair) (line : Line) (k : ℕ) → line .end < endKinds t →
+        arrived p′ k ≡ walk t n p (column t line) → 0 < length (line .lamps)
     arrived-at-lamp n p p′ line k h e = go (subst (λ v. WalkMeans line n p v) (sym e) (walk-means n p line))
       where
         go : WalkMeans line n p (arrived p′ k) → 0 < length (line .lamps)

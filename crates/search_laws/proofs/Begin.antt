@@ -30,7 +30,7 @@ begin-empty g =
       sorted = λ i j l m. absurd (omega arith);
       distinct = λ i j l m. absurd (omega arith);
       ends-good = λ i e f l. absurd (omega arith);
-      n≤length = omega arith
+      n≤length = omega arith;
     }
 
 module _ (g : Graph) (E : List Entry) (q : ℕ) (b : Begun g E q) where
@@ -67,7 +67,7 @@ module _ (g : Graph) (E : List Entry) (q : ℕ) (b : Begun g E q) where
 
     -- It fails at an end, and e is the lowest: the empty line is the least failing line.
     pub begin-lowest :
-      (e f : ℕ) → e < g .ends → g .BadEnd x e f → ((e′ f′ : ℕ) → e′ < e → ¬ (g .BadEnd x e′ f′)) → Least g [] e q f
+        (e f : ℕ) → e < g .ends → g .BadEnd x e f → ((e′ f′ : ℕ) → e′ < e → ¬ (g .BadEnd x e′ f′)) → Least g [] e q f
     unfolding z
     begin-lowest e f le bad lowest = early-least taken me least (λ s′ y ge st′. stem-start q s′ (omega arith))
       where
@@ -76,6 +76,7 @@ module _ (g : Graph) (E : List Entry) (q : ℕ) (b : Begun g E q) where
             subst (λ (v : Entry). Early g (grown E z) (length E) e (v .start) f) (grown-new E z)
             (early (length E) (omega arith) (omega (arith, grown-length E z)) le
             (subst (λ (v : Entry). g .BadEnd (v .node) e f) (sym (grown-new E z)) bad))
+
         least : (e′ s′ f′ : ℕ) → Early g (grown E z) (length E) e′ s′ f′ → key [] e q f ≼ key [] e′ s′ f′
         least e′ s′ f′ (early i ge lt le′ h) =
             subst (λ (v : Entry). key [] e q f ≼ key [] e′ (v .start) f′) (sym (is-new i ge lt))
@@ -88,10 +89,12 @@ module _ (g : Graph) (E : List Entry) (q : ℕ) (b : Begun g E q) where
     where
       alone : (i : ℕ) → i < 1 → stemOf E i ≡ stemOf E 0
       alone i l = let e : i ≡ 0 = omega arith in ap (stemOf E) e
+
       strict : (i j : ℕ) → i < j → j < length E → stemOf E i ≺ stemOf E j
       strict i j l lj =
           let first = b .empty i (omega arith) in
           let second = b .empty j lj in
           rw (first, second) (stem-start (start E i) (start E j) (b .sorted i j l lj))
+
       other : 1 < length E → stemOf E 1 ≢ stemOf E 0
       other l e = ≺-irrefl (stemOf E 0) (subst (λ (v : List ℕ). stemOf E 0 ≺ v) e (strict 0 1 (omega arith) l))

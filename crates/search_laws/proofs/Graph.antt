@@ -60,7 +60,7 @@ module _ (g : Graph) where
 
   -- Where a node is reached, and a line fails from it, the lamps passed and that line fail from the start.
   pub reach-fails :
-    {s x e f : ℕ} {p r : List ℕ} → Reach s p x → Kinds (g .kinds) r → e < g .ends → Fails x r e f → FailsFrom s (p ++ r) e f
+      {s x e f : ℕ} {p r : List ℕ} → Reach s p x → Kinds (g .kinds) r → e < g .ends → Fails x r e f → FailsFrom s (p ++ r) e f
   unfolding Kinds
   reach-fails (from-start h) v l d = record { first = _; start = h; of-kinds = v; ended = l; fails = d }
   reach-fails {e = e} {f = f} {r = r} (past-lamp {s = s} {c = c} {p = p} h k t) v l d =
@@ -69,8 +69,8 @@ module _ (g : Graph) where
 
 -- The nodes that are reached are below a number, if the starts' nodes and those behind edges are.
 pub reach-below :
-  (g : Graph) (N : ℕ) → ((s x : ℕ) → g .Start s x → x < N) → ((x c y : ℕ) → g .To x c y → y < N) →
-  {s x : ℕ} {p : List ℕ} → Reach g s p x → x < N
+    (g : Graph) (N : ℕ) → ((s x : ℕ) → g .Start s x → x < N) → ((x c y : ℕ) → g .To x c y → y < N) →
+    {s x : ℕ} {p : List ℕ} → Reach g s p x → x < N
 reach-below g N start to (from-start {s = s} {x = x} h) = start s x h
 reach-below g N start to (past-lamp {x = x} {c = c} {y = y} r k t) = to x c y t
 
@@ -86,8 +86,8 @@ pub record Plain (g : Graph) : Type 0 where
 
 -- Of the failures of one node at the ends, the one at the lowest end comes first.
 pub lowest-end-first :
-  (g : Graph) → Plain g → (x e f e′ f′ s : ℕ) (p : List ℕ) → g .BadEnd x e f → ((e″ f″ : ℕ) → e″ < e → ¬ (g .BadEnd x e″ f″)) →
-  g .BadEnd x e′ f′ → key p e s f ≼ key p e′ s f′
+    (g : Graph) → Plain g → (x e f e′ f′ s : ℕ) (p : List ℕ) → g .BadEnd x e f → ((e″ f″ : ℕ) → e″ < e → ¬ (g .BadEnd x e″ f″)) →
+    g .BadEnd x e′ f′ → key p e s f ≼ key p e′ s f′
 lowest-end-first g plain x e f e′ f′ s p bad lowest bad′ = go (decLt e e′) (ℕ-discrete e e′)
   where
     go : Dec (e < e′) → Dec (e ≡ e′) → key p e s f ≼ key p e′ s f′

@@ -20,8 +20,8 @@ use Rattle.search_laws.proofs.Invariant.{Tried, GroupTried, tried?, Inv
 pub data Found (g : Graph) (E : List Entry) (a b k n : ℕ) : List ℕ → ℕ → ℕ → ℕ → Type 0 where
   at-lamp : {f : ℕ} (i : ℕ) → a ≤ i → i < b → g .Bad (node E i) k f → Found g E a b k n (path E i ▸ k) 0 (start E i) f
   at-end :
-    {e f : ℕ} (i : ℕ) → n ≤ i → i < length E → e < g .ends → g .BadEnd (node E i) e f →
-    Found g E a b k n (path E i) e (start E i) f
+      {e f : ℕ} (i : ℕ) → n ≤ i → i < length E → e < g .ends → g .BadEnd (node E i) e f →
+      Found g E a b k n (path E i) e (start E i) f
 
 module _ {g : Graph} {E : List Entry} {a b k n : ℕ} (inv : Invariant g E a b k b n) where
   found-stem : {l : List ℕ} {e s f : ℕ} → Found g E a b k n l e s f → stem s l ≡ stemOn E a k
@@ -42,6 +42,7 @@ module _ {g : Graph} {E : List Entry} {a b k n : ℕ} (inv : Invariant g E a b k
     where
       above : (i < b) → (k ≤ c) → k < c
       above y z = ⊎-elim (λ u. u) (λ u. absurd (un (inr (y, inr (sym u, y))))) (below-or-last k c (omega arith))
+
       go : (i < a) ⊎ (a ≤ i) → (i < b) ⊎ (b ≤ i) → (c < k) ⊎ (k ≤ c) → stemOn E a k ≺ stemOn E i c
       go (inl x) y z = absurd (un (inl x))
       go (inr x) (inr y) z = stem-more-less (start E a) (start E i) (path E a) (path E i) k c (inv .later-stems i y l)
@@ -51,8 +52,8 @@ module _ {g : Graph} {E : List Entry} {a b k n : ℕ} (inv : Invariant g E a b k
 
   -- The least of the failures at hand is the least of all.
   pub found-least :
-    {l : List ℕ} {e s f : ℕ} → Kind (g .kinds) k → 0 < g .ends → Found g E a b k n l e s f →
-    ((l′ : List ℕ) (e′ s′ f′ : ℕ) → Found g E a b k n l′ e′ s′ f′ → key l e s f ≼ key l′ e′ s′ f′) → Least g l e s f
+      {l : List ℕ} {e s f : ℕ} → Kind (g .kinds) k → 0 < g .ends → Found g E a b k n l e s f →
+      ((l′ : List ℕ) (e′ s′ f′ : ℕ) → Found g E a b k n l′ e′ s′ f′ → key l e s f ≼ key l′ e′ s′ f′) → Least g l e s f
   found-least {l} {e} {s} {f} kind pos me least = record { fails = found-fails kind pos me; least = of-all }
     where
       of-all : (s′ : ℕ) (l′ : List ℕ) (e′ f′ : ℕ) → FailsFrom g s′ l′ e′ f′ → key l e s f ≼ key l′ e′ s′ f′
@@ -87,7 +88,7 @@ module _ {g : Graph} {E : List Entry} {a b k n : ℕ} (inv : Invariant g E a b k
         covers = record { roots = inv .covers .roots; on = λ i c y l kc d. inv .covers .on i c y l kc (tried-up i c d) };
         lamps-good = lamps-good;
         ends-good = λ i e f l le h.
-          ⊎-elim (λ x. inv .ends-good i e f x le h) (λ x. none (path E i) e (start E i) f (at-end i x l le h)) (below-or-not i n);
+            ⊎-elim (λ x. inv .ends-good i e f x le h) (λ x. none (path E i) e (start E i) f (at-end i x l le h)) (below-or-not i n);
         real = inv .real;
         sorted = inv .sorted;
         one-stem = inv .one-stem;
@@ -100,7 +101,7 @@ module _ {g : Graph} {E : List Entry} {a b k n : ℕ} (inv : Invariant g E a b k
         a≤m = omega arith;
         m≤b = omega (arith, inv .a<b);
         b≤n = omega (arith, inv .b≤n, inv .n≤length);
-        n≤length = omega arith
+        n≤length = omega arith;
       }
     where
       tried-up : (i c : ℕ) → Tried a b (k + 1) a i c → Tried a b k b i c
@@ -108,11 +109,14 @@ module _ {g : Graph} {E : List Entry} {a b k n : ℕ} (inv : Invariant g E a b k
       tried-up i c (inr (x, inl y)) =
           ⊎-elim (λ w. inr (x, inl w)) (λ (w : c ≡ k). inr (x, inr (w, x))) (below-or-last c k y)
       tried-up i c (inr (x, inr (y, z))) = inl z
+
       next-kind : stemOn E a k ≺ stemOn E a (k + 1)
       next-kind = stem-kind-less (start E a) (start E a) (path E a) (path E a) k (k + 1) refl (omega arith)
+
       old-stems : (i : ℕ) → i < length E → (i < n) ⊎ (n ≤ i) → stemOf E i ≺ stemOn E a (k + 1)
       old-stems i l (inl x) = ≺-trans _ _ _ (inv .old-stems i x) next-kind
       old-stems i l (inr x) = subst (λ (z : List ℕ). z ≺ stemOn E a (k + 1)) (sym (inv .new-stems i x l)) next-kind
+
       lamps-good : (i c f : ℕ) → i < length E → Kind (g .kinds) c → GroupTried a b (k + 1) i c → ¬ (g .Bad (node E i) c f)
       lamps-good i c f l kc (inl x) h = inv .lamps-good i c f l kc (inl x) h
       lamps-good i c f l kc (inr (x, y)) h = go (below-or-not i a) (below-or-last c k y)

@@ -40,7 +40,7 @@ module _ {g : Graph} {E : List Entry} {a b k m n : ℕ} (inv : Invariant g E a b
 
   -- The next entry of the group, when all nodes to which this one leads are known.
   pub member-done :
-    ((y : ℕ) → g .To (node E m) k y → Known E y (start E m) (path E m ▸ k)) → Invariant g E a b k (m + 1) n
+      ((y : ℕ) → g .To (node E m) k y → Known E y (start E m) (path E m ▸ k)) → Invariant g E a b k (m + 1) n
   member-done to =
       record {
         covers = record { roots = inv .covers .roots; on = on };
@@ -58,12 +58,12 @@ module _ {g : Graph} {E : List Entry} {a b k m n : ℕ} (inv : Invariant g E a b
         a≤m = omega (arith, inv .a≤m);
         m≤b = omega arith;
         b≤n = inv .b≤n;
-        n≤length = inv .n≤length
+        n≤length = inv .n≤length;
       }
     where
       on :
-        (i c y : ℕ) → i < length E → Kind (g .kinds) c → Tried a b k (m + 1) i c → g .To (node E i) c y →
-        Known E y (start E i) (path E i ▸ c)
+          (i c y : ℕ) → i < length E → Kind (g .kinds) c → Tried a b k (m + 1) i c → g .To (node E i) c y →
+          Known E y (start E i) (path E i ▸ c)
       on i c y l kind d t = go (tried-more a b k m i c d)
         where
           go : Tried a b k m i c ⊎ ((i ≡ m) × (c ≡ k)) → Known E y (start E i) (path E i ▸ c)
@@ -101,49 +101,51 @@ module _ {g : Graph} {E : List Entry} {a b k m n : ℕ} (inv : Invariant g E a b
           covers = record {
             roots = λ s x st. known-grown E z (inv .covers .roots s x st);
             on = λ i c y′ l kc d t′.
-              still i (tried-old i c d) (λ v. Known (grown E z) y′ (v .start) (v .path ▸ c))
-              (known-grown E z
-              (inv .covers .on i c y′ (tried-old i c d) kc d (was i (tried-old i c d) (λ v. g .To (v .node) c y′) t′)))
+                still i (tried-old i c d) (λ v. Known (grown E z) y′ (v .start) (v .path ▸ c))
+                (known-grown E z
+                (inv .covers .on i c y′ (tried-old i c d) kc d (was i (tried-old i c d) (λ v. g .To (v .node) c y′) t′)));
           };
           lamps-good = λ i c f l kc d x.
-            inv .lamps-good i c f (group-old i c d) kc d (was i (group-old i c d) (λ v. g .Bad (v .node) c f) x);
+              inv .lamps-good i c f (group-old i c d) kc d (was i (group-old i c d) (λ v. g .Bad (v .node) c f) x);
           ends-good = λ i e f l le x.
-            inv .ends-good i e f l le (was i (omega (arith, inv .n≤length)) (λ v. g .BadEnd (v .node) e f) x);
+              inv .ends-good i e f l le (was i (omega (arith, inv .n≤length)) (λ v. g .BadEnd (v .node) e f) x);
           real =
-            grown-all E z (λ j v. Reach g (v .start) (v .path) (v .node)) (inv .real)
-            (past-lamp (inv .real m (group-in-table inv m here)) kind to);
+              grown-all E z (λ j v. Reach g (v .start) (v .path) (v .node)) (inv .real)
+              (past-lamp (inv .real m (group-in-table inv m here)) kind to);
           sorted = grown-pairs E z (λ u v. entryKey u ≼ entryKey v) (inv .sorted) all-early;
           one-stem = λ i x l.
-            still i (group-in-table inv i l) (λ v. entryStem v ≡ stemOf (grown E z) a)
-            (still a first-old (λ v. stemOf E i ≡ entryStem v) (inv .one-stem i x l));
+              still i (group-in-table inv i l) (λ v. entryStem v ≡ stemOf (grown E z) a)
+              (still a first-old (λ v. stemOf E i ≡ entryStem v) (inv .one-stem i x l));
           later-stems = λ i x l.
-            still a first-old (λ v. entryStem v ≺ stemOf (grown E z) i)
-            (grown-all E z (λ i v. b ≤ i → stemOf E a ≺ entryStem v) (λ i l x. inv .later-stems i x l) (λ x. longer) i l x);
+              still a first-old (λ v. entryStem v ≺ stemOf (grown E z) i)
+              (grown-all E z (λ i v. b ≤ i → stemOf E a ≺ entryStem v) (λ i l x. inv .later-stems i x l) (λ x. longer) i l x);
           old-stems = λ i l.
-            still a first-old (λ v. stemOf (grown E z) i ≺ stem (v .start) (v .path ▸ k))
-            (still i (omega (arith, inv .n≤length)) (λ v. entryStem v ≺ stemOn E a k) (inv .old-stems i l));
+              still a first-old (λ v. stemOf (grown E z) i ≺ stem (v .start) (v .path ▸ k))
+              (still i (omega (arith, inv .n≤length)) (λ v. entryStem v ≺ stemOn E a k) (inv .old-stems i l));
           new-stems = λ i x l.
-            still a first-old (λ v. stemOf (grown E z) i ≡ stem (v .start) (v .path ▸ k))
-            (grown-all E z (λ i v. n ≤ i → entryStem v ≡ stemOn E a k) (λ i l x. inv .new-stems i x l) (λ x. stem-tried) i l x);
+              still a first-old (λ v. stemOf (grown E z) i ≡ stem (v .start) (v .path ▸ k))
+              (grown-all E z (λ i v. n ≤ i → entryStem v ≡ stemOn E a k) (λ i l x. inv .new-stems i x l) (λ x. stem-tried) i l x);
           new-early = λ i j x l x′ l′.
-            still j (group-in-table inv j l′) (λ v. keyOf (grown E z) i ≼ lineKey (v .path ▸ k) (v .start))
-            (grown-all E z (λ i v. n ≤ i → entryKey v ≼ keyOn E j k)
-            (λ i l x. inv .new-early i j x l x′ l′) (λ x. no-later j x′ l′) i l x);
+              still j (group-in-table inv j l′) (λ v. keyOf (grown E z) i ≼ lineKey (v .path ▸ k) (v .start))
+              (grown-all E z (λ i v. n ≤ i → entryKey v ≼ keyOn E j k)
+              (λ i l x. inv .new-early i j x l x′ l′) (λ x. no-later j x′ l′) i l x);
           distinct = grown-pairs E z (λ u v. u .node ≢ v .node) (inv .distinct) new;
           a<b = inv .a<b;
           a≤m = inv .a≤m;
           m≤b = inv .m≤b;
           b≤n = inv .b≤n;
-          n≤length = omega (arith, inv .n≤length, grown-length E z)
+          n≤length = omega (arith, inv .n≤length, grown-length E z);
         }
       where
         longer : stemOf E a ≺ stemOn E m k
         longer =
             subst (λ (v : List ℕ). v ≺ stemOn E m k) (inv .one-stem m (inv .a≤m) here)
             (stem-longer (start E m) (start E m) (path E m) (path E m ▸ k) (omega (arith, length-append (path E m) (k ∷ []))))
+
         at-or-behind : (j : ℕ) → (m < j) ⊎ (m ≡ j) → j < length E → keyOf E m ≼ keyOf E j
         at-or-behind j (inl u) l = inv .sorted m j u l
         at-or-behind j (inr u) l = subst (λ (i : ℕ). keyOf E m ≼ keyOf E i) u (≼-refl (keyOf E m))
+
         no-later : (j : ℕ) → m ≤ j → j < b → keyOn E m k ≼ keyOn E j k
         no-later j x l =
             key-more (start E m) (start E j) (path E m) (path E j) k

@@ -54,8 +54,8 @@ module _ (E : List Entry) (z : Entry) where
 
   -- What holds of the old entries and of the new one holds of all.
   pub grown-all :
-    (P : ℕ → Entry → Type 0) → ((i : ℕ) → i < length E → P i (entryAt E i)) → P (length E) z →
-    (i : ℕ) → i < length (grown E z) → P i (entryAt (grown E z) i)
+      (P : ℕ → Entry → Type 0) → ((i : ℕ) → i < length E → P i (entryAt E i)) → P (length E) z →
+      (i : ℕ) → i < length (grown E z) → P i (entryAt (grown E z) i)
   grown-all P old new i l = go (below-or-last i (length E) (omega (arith, grown-length)))
     where
       go : (i < length E) ⊎ (i ≡ length E) → P i (entryAt (grown E z) i)
@@ -64,9 +64,9 @@ module _ (E : List Entry) (z : Entry) where
 
   -- What holds of any two old entries, and of each with the new one, holds of any two.
   pub grown-pairs :
-    (P : Entry → Entry → Type 0) → ((i j : ℕ) → i < j → j < length E → P (entryAt E i) (entryAt E j)) →
-    ((i : ℕ) → i < length E → P (entryAt E i) z) →
-    (i j : ℕ) → i < j → j < length (grown E z) → P (entryAt (grown E z) i) (entryAt (grown E z) j)
+      (P : Entry → Entry → Type 0) → ((i j : ℕ) → i < j → j < length E → P (entryAt E i) (entryAt E j)) →
+      ((i : ℕ) → i < length E → P (entryAt E i) z) →
+      (i j : ℕ) → i < j → j < length (grown E z) → P (entryAt (grown E z) i) (entryAt (grown E z) j)
   grown-pairs P old new i j l lj =
       grown-all (λ j v. (i : ℕ) → i < j → P (entryAt (grown E z) i) v)
       (λ j lj i l. still-at i (omega arith) (λ u. P u (entryAt E j)) (old i j l lj))
@@ -79,7 +79,7 @@ module _ (E : List Entry) (z : Entry) where
         place = k .place;
         there = omega (arith, grown-length, k .there);
         same = still-at (k .place) (k .there) (λ v. v .node ≡ y) (k .same);
-        early = still-at (k .place) (k .there) (λ v. entryKey v ≼ lineKey p s) (k .early)
+        early = still-at (k .place) (k .there) (λ v. entryKey v ≼ lineKey p s) (k .early);
       }
 
   -- The new node is known.
@@ -89,5 +89,5 @@ module _ (E : List Entry) (z : Entry) where
         place = length E;
         there = omega (arith, grown-length);
         same = ap (λ (v : Entry). v .node) grown-new;
-        early = subst (λ (v : Entry). entryKey v ≼ entryKey z) (sym grown-new) (≼-refl (entryKey z))
+        early = subst (λ (v : Entry). entryKey v ≼ entryKey z) (sym grown-new) (≼-refl (entryKey z));
       }

@@ -65,5 +65,5 @@ pub record Invariant (g : Graph) (E : List Entry) (a b k m n : ℕ) : Type 0 whe
 
 -- The entries up to the end of the group are in the table.
 pub group-in-table :
-  {g : Graph} {E : List Entry} {a b k m n : ℕ} → Invariant g E a b k m n → (i : ℕ) → i < b → i < length E
+    {g : Graph} {E : List Entry} {a b k m n : ℕ} → Invariant g E a b k m n → (i : ℕ) → i < b → i < length E
 group-in-table inv i l = omega (arith, inv .b≤n, inv .n≤length)

@@ -69,19 +69,19 @@ stem-more s s′ p p′ c h = stem-snoc s p c ∙ same ∙ sym (stem-snoc s′ p
 
 -- The earlier stem stays earlier with any kinds behind the lines.
 pub stem-more-less :
-  (s s′ : ℕ) (p p′ : List ℕ) (c c′ : ℕ) → stem s p ≺ stem s′ p′ → stem s (p ▸ c) ≺ stem s′ (p′ ▸ c′)
+    (s s′ : ℕ) (p p′ : List ℕ) (c c′ : ℕ) → stem s p ≺ stem s′ p′ → stem s (p ▸ c) ≺ stem s′ (p′ ▸ c′)
 stem-more-less s s′ p p′ c c′ h = rw (stem-snoc s p c, stem-snoc s′ p′ c′) (go (unfold stem in h))
   where
     go :
-      (length p ∷ (lead s ++ p)) ≺ (length p′ ∷ (lead s′ ++ p′)) →
-      (suc (length p) ∷ ((lead s ++ p) ▸ c)) ≺ (suc (length p′) ∷ ((lead s′ ++ p′) ▸ c′))
+        (length p ∷ (lead s ++ p)) ≺ (length p′ ∷ (lead s′ ++ p′)) →
+        (suc (length p) ∷ ((lead s ++ p) ▸ c)) ≺ (suc (length p′) ∷ ((lead s′ ++ p′) ▸ c′))
     go h = unfold _≺_ in
         ⊎-elim (λ x. inl (omega arith))
         (λ x. inr (omega (arith, x .0), ≺-append (lead s ++ p) (lead s′ ++ p′) (c ∷ []) (c′ ∷ []) (x .1))) h
 
 -- Behind one stem the lower kind has the earlier stem.
 pub stem-kind-less :
-  (s s′ : ℕ) (p p′ : List ℕ) (c c′ : ℕ) → stem s p ≡ stem s′ p′ → c < c′ → stem s (p ▸ c) ≺ stem s′ (p′ ▸ c′)
+    (s s′ : ℕ) (p p′ : List ℕ) (c c′ : ℕ) → stem s p ≡ stem s′ p′ → c < c′ → stem s (p ▸ c) ≺ stem s′ (p′ ▸ c′)
 stem-kind-less s s′ p p′ c c′ e h =
     subst (λ (z : List ℕ). stem s (p ▸ c) ≺ z) (stem-more s s′ p p′ c′ e)
     (rw (stem-snoc s p c, stem-snoc s p c′) (unfold _≺_ in inr (refl, ≺-last (lead s ++ p) c c′ h)))
@@ -112,7 +112,7 @@ module _ (p p′ : List ℕ) (e e′ s s′ f f′ : ℕ) where
       (≼-behind (stem s p) (tail e s f) (tail e′ s′ f′) r)
 
   key-cases :
-    key p e s f ≼ key p′ e′ s′ f′ → (stem s p ≺ stem s′ p′) ⊎ ((stem s p ≡ stem s′ p′) × (tail e s f ≼ tail e′ s′ f′))
+      key p e s f ≼ key p′ e′ s′ f′ → (stem s p ≺ stem s′ p′) ⊎ ((stem s p ≡ stem s′ p′) × (tail e s f ≼ tail e′ s′ f′))
   unfolding key stem _≼_ _≺_
   key-cases (inl x) = inl (inl x)
   key-cases (inr (x, r)) =
@@ -161,10 +161,14 @@ key-end s s′ e f p p′ h =
     trails r = unfold tail _≼_ in
         ⊎-elim (λ x. absurd (omega arith))
         (λ (x, y). ≼-split (trail s) (trail s′) (0 ∷ []) (0 ∷ []) (trail-length s s′) y) r
+
     again : tail 0 s 0 ≼ tail 0 s′ 0 → tail e s f ≼ tail e s′ f
     again r = unfold tail _≼_ in
-        inr (refl, ⊎-elim (λ u. ≺→≼ _ _ (≺-append (trail s) (trail s′) (f ∷ []) (f ∷ []) u))
-        (λ (u, v). subst (λ (z : List ℕ). (trail s ▸ f) ≼ (z ▸ f)) u (≼-refl (trail s ▸ f))) (trails r))
+        inr (
+          refl,
+          ⊎-elim (λ u. ≺→≼ _ _ (≺-append (trail s) (trail s′) (f ∷ []) (f ∷ []) u))
+              (λ (u, v). subst (λ (z : List ℕ). (trail s ▸ f) ≼ (z ▸ f)) u (≼-refl (trail s ▸ f))) (trails r),
+        )
 
 -- A line comes no later than what begins with it, whatever its end.
 pub key-prefix : (s e f f′ : ℕ) (p r : List ℕ) → f ≤ f′ → key p 0 s f ≼ key (p ++ r) e s f′

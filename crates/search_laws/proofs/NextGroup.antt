@@ -17,14 +17,16 @@ use Rattle.search_laws.proofs.Invariant.{Tried, GroupTried, tried?, Inv
 
 -- The entries that come behind a group in a table in order have later stems, if the first of them has another stem.
 pub behind-later :
-  (E : List Entry) (a b : ℕ) → ((i j : ℕ) → i < j → j < length E → keyOf E i ≼ keyOf E j) →
-  a < b → (b < length E → stemOf E b ≢ stemOf E a) → (i : ℕ) → b ≤ i → i < length E → stemOf E a ≺ stemOf E i
+    (E : List Entry) (a b : ℕ) → ((i j : ℕ) → i < j → j < length E → keyOf E i ≼ keyOf E j) →
+    a < b → (b < length E → stemOf E b ≢ stemOf E a) → (i : ℕ) → b ≤ i → i < length E → stemOf E a ≺ stemOf E i
 behind-later E a b sorted a<b other i b≤i l = go (below-or-last b i (omega arith))
   where
     in-order : (i j : ℕ) → i < j → j < length E → (stemOf E i ≺ stemOf E j) ⊎ (stemOf E i ≡ stemOf E j)
     in-order i j h l = key-stems (path E i) (path E j) 0 0 (start E i) (start E j) 0 0 (sorted i j h l)
+
     at-b : b < length E → stemOf E a ≺ stemOf E b
     at-b h = ⊎-elim (λ x. x) (λ x. absurd (other h (sym x))) (in-order a b a<b h)
+
     go : (b < i) ⊎ (b ≡ i) → stemOf E a ≺ stemOf E i
     go (inl u) =
         ⊎-elim (λ v. ≺-trans _ _ _ (at-b (omega arith)) v)
@@ -34,8 +36,8 @@ behind-later E a b sorted a<b other i b≤i l = go (below-or-last b i (omega ari
 module _ {g : Graph} {E : List Entry} {a b : ℕ} (inv : Invariant g E a b (g .kinds + 1) a (length E)) where
   -- The next group goes up to where the stem changes.
   pub group-done :
-    (b′ : ℕ) → b < b′ → b′ ≤ length E → ((i : ℕ) → b ≤ i → i < b′ → stemOf E i ≡ stemOf E b) →
-    (b′ < length E → stemOf E b′ ≢ stemOf E b) → Invariant g E b b′ 1 b (length E)
+      (b′ : ℕ) → b < b′ → b′ ≤ length E → ((i : ℕ) → b ≤ i → i < b′ → stemOf E i ≡ stemOf E b) →
+      (b′ < length E → stemOf E b′ ≢ stemOf E b) → Invariant g E b b′ 1 b (length E)
   group-done b′ lt le same other =
       record {
         covers = record { roots = inv .covers .roots; on = λ i c y l kc d. inv .covers .on i c y l kc (all-tried i c kc d) };
@@ -46,9 +48,9 @@ module _ {g : Graph} {E : List Entry} {a b : ℕ} (inv : Invariant g E a b (g .k
         one-stem = same;
         later-stems = behind-later E b b′ (inv .sorted) lt other;
         old-stems = λ i l.
-          ≺-trans _ _ _ (inv .old-stems i l)
-          (stem-more-less (start E a) (start E b) (path E a) (path E b) (g .kinds + 1) 1
-          (inv .later-stems b (omega arith) (omega arith)));
+            ≺-trans _ _ _ (inv .old-stems i l)
+            (stem-more-less (start E a) (start E b) (path E a) (path E b) (g .kinds + 1) 1
+            (inv .later-stems b (omega arith) (omega arith)));
         new-stems = λ i x l. absurd (omega arith);
         new-early = λ i j x l. absurd (omega arith);
         distinct = inv .distinct;
@@ -56,13 +58,14 @@ module _ {g : Graph} {E : List Entry} {a b : ℕ} (inv : Invariant g E a b (g .k
         a≤m = omega arith;
         m≤b = omega arith;
         b≤n = le;
-        n≤length = omega arith
+        n≤length = omega arith;
       }
     where
       all-tried : (i c : ℕ) → Kind (g .kinds) c → Tried b b′ 1 b i c → Tried a b (g .kinds + 1) a i c
       all-tried i c kc (inl x) = inr (x, inl (omega (arith, kc .high)))
       all-tried i c kc (inr (x, inl y)) = absurd (omega (arith, kc .low))
       all-tried i c kc (inr (x, inr (y, z))) = inr (z, inl (omega (arith, kc .high)))
+
       lamps-good : (i c f : ℕ) → i < length E → Kind (g .kinds) c → GroupTried b b′ 1 i c → ¬ (g .Bad (node E i) c f)
       lamps-good i c f l kc (inl x) h = inv .lamps-good i c f l kc (inr (x, omega (arith, kc .high))) h
       lamps-good i c f l kc (inr (x, y)) h = omega (arith, kc .low)
@@ -94,13 +97,19 @@ module _ {g : Graph} {E : List Entry} {a b : ℕ} (inv : Invariant g E a b 1 a (
       no-shorter : (i : ℕ) → i < length E → (a < i) ⊎ (a ≡ i) → length (path E a) ≤ length (path E i)
       no-shorter i l (inl u) = key-length (path E a) (path E i) 0 0 (start E a) (start E i) 0 0 (inv .sorted a i u l)
       no-shorter i l (inr u) = omega (arith, ap (λ (j : ℕ). length (path E j)) u)
+
       late :
-        (i c : ℕ) → (i < a) ⊎ (a ≤ i) → i < length E → ¬ (Tried a b 1 a i c) → keyOn E i c ≼ key l e s f →
-        length (path E a) < length l
+          (i c : ℕ) → (i < a) ⊎ (a ≤ i) → i < length E → ¬ (Tried a b 1 a i c) → keyOn E i c ≼ key l e s f →
+          length (path E a) < length l
       late i c (inl x) li un le = absurd (un (inl x))
       late i c (inr x) li un le =
-          omega (arith, no-shorter i li (below-or-last a i (omega arith)),
-          key-length (path E i ▸ c) l 0 e (start E i) s 0 f le, length-append (path E i) (c ∷ []))
+          omega (
+            arith,
+            no-shorter i li (below-or-last a i (omega arith)),
+            key-length (path E i ▸ c) l 0 e (start E i) s 0 f le,
+            length-append (path E i) (c ∷ []),
+          )
+
       go : Open g E (Tried a b 1 a) s l e f → length (path E a) < length l
       go (untried i c li kc un le) = late i c (below-or-not i a) li un le
       go (lamp-fails i c li kc (inl x) h le) = absurd (inv .lamps-good i c f li kc (inl x) h)

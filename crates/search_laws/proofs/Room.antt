@@ -10,8 +10,8 @@ use Rattle.search_laws.proofs.Grown.{below-or-not}
 
 -- At most as many entries as nodes.
 pub entries-fit :
-  (E : List Entry) (N : ℕ) → ((i j : ℕ) → i < j → j < length E → node E i ≢ node E j) →
-  ((i : ℕ) → i < length E → node E i < N) → length E ≤ N
+    (E : List Entry) (N : ℕ) → ((i j : ℕ) → i < j → j < length E → node E i ≢ node E j) →
+    ((i : ℕ) → i < length E → node E i < N) → length E ≤ N
 entries-fit E N distinct below = go (below-or-not N (length E))
   where
     go : (N < length E) ⊎ (length E ≤ N) → length E ≤ N

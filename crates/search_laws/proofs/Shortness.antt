@@ -64,8 +64,8 @@ module _ (g : Graph) where
 
   -- Another rest that fails from there makes a failing line too.
   splice :
-    {x e f : ℕ} {l : List ℕ} (d : Fails g x l e f) (i : ℕ) (m : List ℕ) → i ≤ passed d →
-    Fails g (node-at d i) m e f → Fails g x (take i l ++ m) e f
+      {x e f : ℕ} {l : List ℕ} (d : Fails g x l e f) (i : ℕ) (m : List ℕ) → i ≤ passed d →
+      Fails g (node-at d i) m e f → Fails g x (take i l ++ m) e f
   unfolding passed node-at
   splice (bad-end b) zero m h r = r
   splice (bad-end b) (suc i) m h r = absurd (omega arith)
@@ -91,8 +91,8 @@ pub record Coded (g : Graph) (In : ℕ → Type 0) (code : ℕ → ℕ) (M : ℕ
 module _ (g : Graph) (In : ℕ → Type 0) (code : ℕ → ℕ) (M : ℕ) (coded : Coded g In code M) where
   -- The node at a lamp that is passed is left there.
   left-at :
-    {x e f : ℕ} {l : List ℕ} (d : Fails g x l e f) → In x → (i : ℕ) → i < passed g d →
-    (c : ℕ) × (y : ℕ) × In (node-at g d i) × g .To (node-at g d i) c y
+      {x e f : ℕ} {l : List ℕ} (d : Fails g x l e f) → In x → (i : ℕ) → i < passed g d →
+      (c : ℕ) × (y : ℕ) × In (node-at g d i) × g .To (node-at g d i) c y
   unfolding passed node-at
   left-at (bad-end b) x-in i h = absurd (omega arith)
   left-at (bad-lamp b) x-in i h = absurd (omega arith)
@@ -115,37 +115,44 @@ module _ (g : Graph) (In : ℕ → Type 0) (code : ℕ → ℕ) (M : ℕ) (coded
         where
           bound : (i : ℕ) → i ≤ M → code (node-at g d i) < M
           bound i li = let (c, y, i-in, t) = left-at d x-in i (omega arith) in coded .code-bound (node-at g d i) c y i-in t
+
           twice : Repeat (λ i. code (node-at g d i)) M → Shorter x l e f
-          twice r =
-              (take i l ++ drop j l, short,
-              kinds-append (g .kinds) (take i l) (drop j l) (kinds-take (g .kinds) i l v) (kinds-drop (g .kinds) j l v),
-              splice g d i (drop j l) (omega (arith, r .in-order, r .in-range))
-              (subst (λ (z : ℕ). Fails g z (drop j l) e f) (sym same) (rest-fails g d j (omega (arith, r .in-range)))))
+          twice r = (
+            take i l ++ drop j l,
+            short,
+            kinds-append (g .kinds) (take i l) (drop j l) (kinds-take (g .kinds) i l v) (kinds-drop (g .kinds) j l v),
+            splice g d i (drop j l) (omega (arith, r .in-order, r .in-range))
+                (subst (λ (z : ℕ). Fails g z (drop j l) e f) (sym same) (rest-fails g d j (omega (arith, r .in-range)))),
+          )
             where
               i : ℕ
               i = r .earlier
+
               j : ℕ
               j = r .later
+
               same : node-at g d i ≡ node-at g d j
               same =
                   let (c, y, i-in, t) = left-at d x-in i (omega (arith, r .in-order, r .in-range)) in
                   let (c′, y′, j-in, t′) = left-at d x-in j (omega (arith, r .in-range)) in
                   coded .code-own (node-at g d i) c y (node-at g d j) c′ y′ i-in t j-in t′ (r .same)
+
               short : length (take i l ++ drop j l) < length l
               short =
                   simp (length-append, length-take, length-drop) (omega (arith, r .in-order, r .in-range, passed-bound g d))
 
   -- Where all starts begin with such nodes, a least failing line has at most M + 1 lamps.
   pub least-short :
-    ((s x : ℕ) → g .Start s x → In x) → (s : ℕ) (l : List ℕ) (e f : ℕ) → Least g l e s f → length l ≤ M + 1
+      ((s x : ℕ) → g .Start s x → In x) → (s : ℕ) (l : List ℕ) (e f : ℕ) → Least g l e s f → length l ≤ M + 1
   least-short start-in s l e f least = go (decLt (M + 1) (length l))
     where
       d : FailsFrom g s l e f
       d = least .fails
+
       go : Dec (M + 1 < length l) → length l ≤ M + 1
       go (no h) = omega arith
       go (yes h) =
           let (m, less, v, fails) = shorter (d .fails) (start-in s (d .first) (d .start)) (d .of-kinds) h in
           let d′ : FailsFrom g s m e f =
-                record { first = d .first; start = d .start; of-kinds = v; ended = d .ended; fails = fails } in
+          record { first = d .first; start = d .start; of-kinds = v; ended = d .ended; fails = fails } in
           absurd (omega (arith, key-length l m e e s s f f (least .least s m e f d′)))

@@ -41,21 +41,21 @@ module _ {g : Graph} {E : List Entry} {q n : ℕ} (b : StartsTaken g E q n) wher
   skip-start none =
       record {
         roots = λ s x l st.
-          ⊎-elim (λ y. b .roots s x y st) (λ (y : s ≡ q). absurd (none x (subst (λ (z : ℕ). g .Start z x) y st)))
-          (below-or-last s q l);
+            ⊎-elim (λ y. b .roots s x y st) (λ (y : s ≡ q). absurd (none x (subst (λ (z : ℕ). g .Start z x) y st)))
+            (below-or-last s q l);
         empty = b .empty;
         taken = λ i l. omega (arith, b .taken i l);
         marked = b .marked;
         sorted = b .sorted;
         distinct = b .distinct;
         ends-good = b .ends-good;
-        n≤length = b .n≤length
+        n≤length = b .n≤length;
       }
 
   -- The start q has this node alone, and it is new.
   pub take-start :
-    (x : ℕ) → g .Start q x → ((x′ : ℕ) → g .Start q x′ → x′ ≡ x) → ((i : ℕ) → i < length E → node E i ≢ x) →
-    StartsTaken g (grown E (entry x q [])) (q + 1) n
+      (x : ℕ) → g .Start q x → ((x′ : ℕ) → g .Start q x′ → x′ ≡ x) → ((i : ℕ) → i < length E → node E i ≢ x) →
+      StartsTaken g (grown E (entry x q [])) (q + 1) n
   take-start x st only new =
       record {
         roots = λ s x′ l st′. root s x′ st′ (below-or-last s q l);
@@ -65,27 +65,30 @@ module _ {g : Graph} {E : List Entry} {q n : ℕ} (b : StartsTaken g E q n) wher
         sorted = grown-pairs E z (λ u v. u .start < v .start) (b .sorted) (b .taken);
         distinct = grown-pairs E z (λ u v. u .node ≢ v .node) (b .distinct) new;
         ends-good = λ i e f l le h.
-          b .ends-good i e f l le (was-at E z i (omega (arith, b .n≤length)) (λ v. g .BadEnd (v .node) e f) h);
-        n≤length = omega (arith, b .n≤length, grown-length E z)
+            b .ends-good i e f l le (was-at E z i (omega (arith, b .n≤length)) (λ v. g .BadEnd (v .node) e f) h);
+        n≤length = omega (arith, b .n≤length, grown-length E z);
       }
     where
       z : Entry
       z = entry x q []
+
       root : (s x′ : ℕ) → g .Start s x′ → (s < q) ⊎ (s ≡ q) → Known (grown E z) x′ s []
       root s x′ st′ (inl y) = known-grown E z (b .roots s x′ y st′)
       root s x′ st′ (inr y) = rw (y, only x′ (rw y at st′)) (known-new E z)
 
   -- The least of the failures at hand is the least of all, where the starts that are not taken have later stems.
   pub early-least :
-    {e s f : ℕ} → Early g E n e s f → ((e′ s′ f′ : ℕ) → Early g E n e′ s′ f′ → key [] e s f ≼ key [] e′ s′ f′) →
-    ((s′ x : ℕ) → q ≤ s′ → g .Start s′ x → stem s [] ≺ stem s′ []) → Least g [] e s f
+      {e s f : ℕ} → Early g E n e s f → ((e′ s′ f′ : ℕ) → Early g E n e′ s′ f′ → key [] e s f ≼ key [] e′ s′ f′) →
+      ((s′ x : ℕ) → q ≤ s′ → g .Start s′ x → stem s [] ≺ stem s′ []) → Least g [] e s f
   early-least {e} {s} {f} me least others = record { fails = fails me; least = of-all }
     where
       fails : {e s f : ℕ} → Early g E n e s f → FailsFrom g s [] e f
       fails (early i x l le h) =
           record { first = node E i; start = b .marked i l; of-kinds = unfold Kinds in tt; ended = le; fails = bad-end h }
+
       bad : {x e′ f′ : ℕ} → Fails g x [] e′ f′ → g .BadEnd x e′ f′
       bad (bad-end h) = h
+
       of-all : (s′ : ℕ) (l′ : List ℕ) (e′ f′ : ℕ) → FailsFrom g s′ l′ e′ f′ → key [] e s f ≼ key l′ e′ s′ f′
       of-all s′ [] e′ f′ d = go (below-or-not s′ q)
         where
@@ -100,6 +103,7 @@ module _ {g : Graph} {E : List Entry} {q n : ℕ} (b : StartsTaken g E q n) wher
               (subst (λ (z : ℕ). g .BadEnd z e′ f′) (sym (k .same)) (bad (d .fails)))))
               (key-end s″ s′ e′ f′ [] []
               (subst (λ (p : List ℕ). lineKey p s″ ≼ lineKey [] s′) (b .empty (k .place) (k .there)) (k .early)))
+
           go : (s′ < q) ⊎ (q ≤ s′) → key [] e s f ≼ key [] e′ s′ f′
           go (inl h) = let k = b .roots s′ (d .first) h (d .start) in at k (below-or-not (k .place) n)
           go (inr h) = key-by-stem [] [] e e′ s s′ f f′ (others s′ (d .first) h (d .start))
@@ -116,28 +120,28 @@ module _ {g : Graph} {E : List Entry} {q n : ℕ} (b : StartsTaken g E q n) wher
         sorted = b .sorted;
         distinct = b .distinct;
         ends-good = λ i e f l le h.
-          ⊎-elim (λ x. b .ends-good i e f x le h) (λ x. none e (start E i) f (early i x l le h)) (below-or-not i n);
-        n≤length = omega arith
+            ⊎-elim (λ x. b .ends-good i e f x le h) (λ x. none e (start E i) f (early i x l le h)) (below-or-not i n);
+        n≤length = omega arith;
       }
 
 -- All starts are taken and tested. The first group goes up to where the stem changes, and its first kind is next.
 module _ {g : Graph} {E : List Entry} {q : ℕ} (b : StartsTaken g E q (length E)) where
   pub first-group :
-    (m : ℕ) → 0 < m → m ≤ length E → ((s x : ℕ) → g .Start s x → s < q) →
-    ((i : ℕ) → i < m → stemOf E i ≡ stemOf E 0) → (m < length E → stemOf E m ≢ stemOf E 0) → Invariant g E 0 m 1 0 (length E)
+      (m : ℕ) → 0 < m → m ≤ length E → ((s x : ℕ) → g .Start s x → s < q) →
+      ((i : ℕ) → i < m → stemOf E i ≡ stemOf E 0) → (m < length E → stemOf E m ≢ stemOf E 0) → Invariant g E 0 m 1 0 (length E)
   first-group m pos le all same other =
       record {
         covers = record { roots = λ s x st. b .roots s x (all s x st) st; on = λ i c y l kc d. absurd (none-tried i c kc d) };
         lamps-good = λ i c f l kc d. absurd (no-group i c kc d);
         ends-good = b .ends-good;
         real = λ i l.
-          subst (λ (p : List ℕ). Reach g (start E i) p (node E i)) (sym (b .empty i l)) (from-start (b .marked i l));
+            subst (λ (p : List ℕ). Reach g (start E i) p (node E i)) (sym (b .empty i l)) (from-start (b .marked i l));
         sorted = in-order;
         one-stem = λ i x l. same i l;
         later-stems = behind-later E 0 m in-order pos other;
         old-stems = λ i l.
-          stem-longer (start E i) (start E 0) (path E i) (path E 0 ▸ 1)
-          (omega (arith, ap length (b .empty i l), length-append (path E 0) (1 ∷ [])));
+            stem-longer (start E i) (start E 0) (path E i) (path E 0 ▸ 1)
+            (omega (arith, ap length (b .empty i l), length-append (path E 0) (1 ∷ [])));
         new-stems = λ i x l. absurd (omega arith);
         new-early = λ i j x l. absurd (omega arith);
         distinct = b .distinct;
@@ -145,16 +149,18 @@ module _ {g : Graph} {E : List Entry} {q : ℕ} (b : StartsTaken g E q (length E
         a≤m = omega arith;
         m≤b = omega arith;
         b≤n = le;
-        n≤length = omega arith
+        n≤length = omega arith;
       }
     where
       none-tried : (i c : ℕ) → Kind (g .kinds) c → ¬ (Tried 0 m 1 0 i c)
       none-tried i c kc (inl x) = omega arith
       none-tried i c kc (inr (x, inl y)) = omega (arith, kc .low)
       none-tried i c kc (inr (x, inr (y, z))) = omega arith
+
       no-group : (i c : ℕ) → Kind (g .kinds) c → ¬ (GroupTried 0 m 1 i c)
       no-group i c kc (inl x) = omega arith
       no-group i c kc (inr (x, y)) = omega (arith, kc .low)
+
       in-order : (i j : ℕ) → i < j → j < length E → keyOf E i ≼ keyOf E j
       in-order i j l lj =
           let first = b .empty i (omega arith) in

@@ -73,34 +73,34 @@ pub record Known (E : List Entry) (y s : ℕ) (p : List ℕ) : Type 0 where
 pub record Covers (g : Graph) (E : List Entry) (Done : ℕ → ℕ → Type 0) : Type 0 where
   pub roots : (s x : ℕ) → g .Start s x → Known E x s []
   pub on :
-    (i c y : ℕ) → i < length E → Kind (g .kinds) c → Done i c → g .To (node E i) c y → Known E y (start E i) (path E i ▸ c)
+      (i c y : ℕ) → i < length E → Kind (g .kinds) c → Done i c → g .To (node E i) c y → Known E y (start E i) (path E i ▸ c)
 
 -- Where a failing line leaves the table: at an entry and a kind that were not tried, or with a failure of an entry at a lamp of a
 -- kind that was tried, or at an end. What it meets there comes no later than the line itself.
 pub data Open (g : Graph) (E : List Entry) (Done : ℕ → ℕ → Type 0) (s : ℕ) (l : List ℕ) (e f : ℕ) : Type 0 where
   untried :
-    (i c : ℕ) → i < length E → Kind (g .kinds) c → ¬ (Done i c) →
-    keyOn E i c ≼ key l e s f → Open g E Done s l e f
+      (i c : ℕ) → i < length E → Kind (g .kinds) c → ¬ (Done i c) →
+      keyOn E i c ≼ key l e s f → Open g E Done s l e f
   lamp-fails :
-    (i c : ℕ) → i < length E → Kind (g .kinds) c → Done i c → g .Bad (node E i) c f →
-    key (path E i ▸ c) 0 (start E i) f ≼ key l e s f → Open g E Done s l e f
+      (i c : ℕ) → i < length E → Kind (g .kinds) c → Done i c → g .Bad (node E i) c f →
+      key (path E i ▸ c) 0 (start E i) f ≼ key l e s f → Open g E Done s l e f
   end-fails :
-    (i : ℕ) → i < length E → g .BadEnd (node E i) e f →
-    key (path E i) e (start E i) f ≼ key l e s f → Open g E Done s l e f
+      (i : ℕ) → i < length E → g .BadEnd (node E i) e f →
+      key (path E i) e (start E i) f ≼ key l e s f → Open g E Done s l e f
 
 -- ---- following a line
 
 -- A node known so early is known for what comes later.
 known-later :
-  {E : List Entry} {y s : ℕ} {p : List ℕ} (s′ : ℕ) (p′ : List ℕ) → Known E y s p → lineKey p s ≼ lineKey p′ s′ → Known E y s′ p′
+    {E : List Entry} {y s : ℕ} {p : List ℕ} (s′ : ℕ) (p′ : List ℕ) → Known E y s p → lineKey p s ≼ lineKey p′ s′ → Known E y s′ p′
 known-later s′ p′ k h = record { place = k .place; there = k .there; same = k .same; early = ≼-trans _ _ _ (k .early) h }
 
 module _
-  (g : Graph) (E : List Entry) (Done : ℕ → ℕ → Type 0) (done? : (i c : ℕ) → Dec (Done i c)) (covers : Covers g E Done) where
+    (g : Graph) (E : List Entry) (Done : ℕ → ℕ → Type 0) (done? : (i c : ℕ) → Dec (Done i c)) (covers : Covers g E Done) where
   -- The line of an entry with one lamp more comes no later than any line for which the entry stands.
   on-early :
-    (i c s e f f′ : ℕ) (p l : List ℕ) → f ≤ f′ → keyOf E i ≼ lineKey p s →
-    key (path E i ▸ c) 0 (start E i) f ≼ key (p ++ (c ∷ l)) e s f′
+      (i c s e f f′ : ℕ) (p l : List ℕ) → f ≤ f′ → keyOf E i ≼ lineKey p s →
+      key (path E i ▸ c) 0 (start E i) f ≼ key (p ++ (c ∷ l)) e s f′
   on-early i c s e f f′ p l h early =
       subst (λ (z : List ℕ). key (path E i ▸ c) 0 (start E i) f ≼ key z e s f′) (snoc-append p c l)
       (≼-trans _ (key (p ▸ c) 0 s f) _
@@ -109,7 +109,7 @@ module _
 
   -- One lamp further along the table.
   known-on :
-    (s c x y : ℕ) (p : List ℕ) (k : Known E x s p) → Kind (g .kinds) c → Done (k .place) c → g .To x c y → Known E y s (p ▸ c)
+      (s c x y : ℕ) (p : List ℕ) (k : Known E x s p) → Kind (g .kinds) c → Done (k .place) c → g .To x c y → Known E y s (p ▸ c)
   known-on s c x y p k kind done to =
       let i = k .place in
       known-later s (p ▸ c)
@@ -117,7 +117,7 @@ module _
       (key-more (start E i) s (path E i) p c (k .early))
 
   follow :
-    {x e f : ℕ} (s : ℕ) (p r : List ℕ) → Known E x s p → Kinds (g .kinds) r → Fails g x r e f → Open g E Done s (p ++ r) e f
+      {x e f : ℕ} (s : ℕ) (p r : List ℕ) → Known E x s p → Kinds (g .kinds) r → Fails g x r e f → Open g E Done s (p ++ r) e f
   unfolding Kinds
   follow {x} {e} {f} s p r k v (bad-end h) =
       subst (λ (z : List ℕ). Open g E Done s z e f) (sym (append-nil p))
@@ -127,6 +127,7 @@ module _
     where
       kind : Kind (g .kinds) c
       kind = record { low = v .0; high = v .1 }
+
       go : Dec (Done (k .place) c) → Open g E Done s (p ++ (c ∷ l)) e f
       go (yes d) =
           lamp-fails (k .place) c (k .there) kind d (subst (λ (z : ℕ). g .Bad z c f) (sym (k .same)) h)
@@ -137,9 +138,10 @@ module _
     where
       kind : Kind (g .kinds) c
       kind = record { low = v .0; high = v .1 }
+
       go :
-        (Known E y s (p ▸ c) → Open g E Done s ((p ▸ c) ++ l) e f) → Dec (Done (k .place) c) →
-        Open g E Done s (p ++ (c ∷ l)) e f
+          (Known E y s (p ▸ c) → Open g E Done s ((p ▸ c) ++ l) e f) → Dec (Done (k .place) c) →
+          Open g E Done s (p ++ (c ∷ l)) e f
       go after (yes d) =
           subst (λ (z : List ℕ). Open g E Done s z e f) (snoc-append p c l) (after (known-on s c x y p k kind d t))
       go after (no d) = untried (k .place) c (k .there) kind d (on-early (k .place) c s e 0 f p l (omega arith) (k .early))
@@ -150,7 +152,7 @@ module _
 
   -- Where all was tried, every node that is reached is known.
   pub reach-known :
-    ((i c : ℕ) → i < length E → Kind (g .kinds) c → Done i c) → {s x : ℕ} {p : List ℕ} → Reach g s p x → Known E x s p
+      ((i c : ℕ) → i < length E → Kind (g .kinds) c → Done i c) → {s x : ℕ} {p : List ℕ} → Reach g s p x → Known E x s p
   reach-known all (from-start {s = s} {x = x} h) = covers .roots s x h
   reach-known all (past-lamp {s = s} {x = x} {c = c} {y = y} {p = p} r kind t) = go (reach-known all r)
     where

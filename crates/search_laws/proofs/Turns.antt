@@ -31,12 +31,13 @@ module _ (g : Graph) (E : List Entry) (h k : ℕ) (at : At g E h k) where
 
   -- The lamp does not fail, and every node to which the entry leads is in the table: the next kind.
   pub turn-quiet :
-    ((f : ℕ) → ¬ (g .Bad (node E h) k f)) →
-    ((y : ℕ) → g .To (node E h) k y → (j : ℕ) × (j < length E) × (node E j ≡ y)) → At g E h (k + 1)
+      ((f : ℕ) → ¬ (g .Bad (node E h) k f)) →
+      ((y : ℕ) → g .To (node E h) k y → (j : ℕ) × (j < length E) × (node E j ≡ y)) → At g E h (k + 1)
   turn-quiet good met = record { inv = kind-done tried none; strict = at .strict }
     where
       tried : Invariant g E h (h + 1) k (h + 1) (length E)
       tried = member-done (at .inv) here (λ y t. let (j, l, e) = met y t in seen (at .inv) here j y l e)
+
       none : (l : List ℕ) (e s f : ℕ) → ¬ (Found g E h (h + 1) k (length E) l e s f)
       none l e s f (at-lamp i x y b) = good f (subst (λ (j : ℕ). g .Bad (node E j) k f) (only i x y) b)
       none l e s f (at-end i x y le b) = omega arith
@@ -48,9 +49,10 @@ module _ (g : Graph) (E : List Entry) (h k : ℕ) (at : At g E h k) where
       where
         tried : Invariant g E h (h + 1) k (h + 1) (length E)
         tried = member-done (at .inv) here (λ y t. absurd (plain .bad-to (node E h) k f y b t))
+
         least :
-          (l′ : List ℕ) (e′ s′ f′ : ℕ) → Found g E h (h + 1) k (length E) l′ e′ s′ f′ →
-          key (path E h ▸ k) 0 (start E h) f ≼ key l′ e′ s′ f′
+            (l′ : List ℕ) (e′ s′ f′ : ℕ) → Found g E h (h + 1) k (length E) l′ e′ s′ f′ →
+            key (path E h ▸ k) 0 (start E h) f ≼ key l′ e′ s′ f′
         least l′ e′ s′ f′ (at-lamp i x y b′) =
             let q = only i x y in
             let same : f ≡ f′ = plain .bad-one (node E h) k f f′ b (subst (λ (j : ℕ). g .Bad (node E j) k f′) q b′) in
@@ -70,7 +72,7 @@ module _ (g : Graph) (E : List Entry) (h k : ℕ) (at : At g E h k) where
       tried =
           member-done (add (at .inv) here kind y new to) here (λ y′ t′.
           let same : y ≡ y′ =
-                plain .to-one (node E h) k y y′ to (was-at E z h in-table (λ v. g .To (v .node) k y′) t′) in
+          plain .to-one (node E h) k y y′ to (was-at E z h in-table (λ v. g .To (v .node) k y′) t′) in
           still-at E z h in-table (λ v. Known (grown E z) y′ (v .start) (v .path ▸ k))
           (subst (λ (x : ℕ). Known (grown E z) x (start E h) (path E h ▸ k)) same (known-new E z)))
 
@@ -95,7 +97,7 @@ module _ (g : Graph) (E : List Entry) (h k : ℕ) (at : At g E h k) where
       turn-add good =
           record {
             inv = kind-done tried none;
-            strict = grown-pairs E z (λ u v. entryStem u ≺ entryStem v) (at .strict) (at .inv .old-stems)
+            strict = grown-pairs E z (λ u v. entryStem u ≺ entryStem v) (at .strict) (at .inv .old-stems);
           }
         where
           none : (l : List ℕ) (e s f : ℕ) → ¬ (Found g (grown E z) h (h + 1) k (length E) l e s f)
@@ -104,8 +106,8 @@ module _ (g : Graph) (E : List Entry) (h k : ℕ) (at : At g E h k) where
 
       -- It fails at an end, and e is the lowest: the line that leads to it is the least failing line.
       pub fails-end :
-        (e f : ℕ) → e < g .ends → g .BadEnd y e f → ((e′ f′ : ℕ) → e′ < e → ¬ (g .BadEnd y e′ f′)) →
-        Least g (path E h ▸ k) e (start E h) f
+          (e f : ℕ) → e < g .ends → g .BadEnd y e f → ((e′ f′ : ℕ) → e′ < e → ¬ (g .BadEnd y e′ f′)) →
+          Least g (path E h ▸ k) e (start E h) f
       unfolding z
       fails-end e f le b lowest =
           subst (λ (v : Entry). Least g (v .path) e (v .start) f) (grown-new E z)
@@ -114,9 +116,10 @@ module _ (g : Graph) (E : List Entry) (h k : ℕ) (at : At g E h k) where
         where
           there : g .BadEnd (node (grown E z) (length E)) e f
           there = subst (λ (v : Entry). g .BadEnd (v .node) e f) (sym (grown-new E z)) b
+
           least :
-            (l′ : List ℕ) (e′ s′ f′ : ℕ) → Found g (grown E z) h (h + 1) k (length E) l′ e′ s′ f′ →
-            key (path (grown E z) (length E)) e (start (grown E z) (length E)) f ≼ key l′ e′ s′ f′
+              (l′ : List ℕ) (e′ s′ f′ : ℕ) → Found g (grown E z) h (h + 1) k (length E) l′ e′ s′ f′ →
+              key (path (grown E z) (length E)) e (start (grown E z) (length E)) f ≼ key l′ e′ s′ f′
           least l′ e′ s′ f′ (at-lamp i x l b′) = absurd (lamp-good i f′ x l b′)
           least l′ e′ s′ f′ (at-end i x l le′ b′) =
               rw (is-last i x l)
@@ -130,12 +133,13 @@ module _ (g : Graph) (E : List Entry) (h : ℕ) (at : At g E h (g .kinds + 1)) w
   turn-next l =
       record {
         inv = group-done (at .inv) (h + 1 + 1) (omega arith) (omega arith)
-          (λ i x y. ap (stemOf E) (same i x y)) (λ y e. differ (h + 1) (h + 1 + 1) (omega arith) y e);
-        strict = at .strict
+            (λ i x y. ap (stemOf E) (same i x y)) (λ y e. differ (h + 1) (h + 1 + 1) (omega arith) y e);
+        strict = at .strict;
       }
     where
       same : (i : ℕ) → h + 1 ≤ i → i < h + 1 + 1 → i ≡ h + 1
       same i x y = omega arith
+
       differ : (i j : ℕ) → i < j → j < length E → stemOf E j ≢ stemOf E i
       differ i j x l e = ≺-irrefl (stemOf E i) (subst (λ (v : List ℕ). stemOf E i ≺ v) e (at .strict i j x l))
 

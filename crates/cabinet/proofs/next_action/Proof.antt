@@ -30,8 +30,8 @@ returns c =
 
 -- The reader answered the job.
 opened :
-  (c : tie.After-reading) →
-  Opened (c .before .before .before .before .args .file .now) (c .reading .given .0 .0)
+    (c : tie.After-reading) →
+    Opened (c .before .before .before .before .args .file .now) (c .reading .given .0 .0)
 opened c = sym (c .before .before .read-job .ensures) ∙ c .reading .given .1
 
 returns-2 : tie.Need-returns-2

@@ -34,8 +34,8 @@ returns c =
 
 -- The reader answered the job.
 opened :
-  (c : tie.After-reading) →
-  Opened (c .before .before .before .before .args .file .now) (c .reading .given .0 .0)
+    (c : tie.After-reading) →
+    Opened (c .before .before .before .before .args .file .now) (c .reading .given .0 .0)
 opened c = sym (c .before .before .read-job .ensures) ∙ c .reading .given .1
 
 returns-2 : tie.Need-returns-2
@@ -52,9 +52,9 @@ returns-3 c =
 
 -- Behind the first two tests the state is below S.
 below :
-  (c : tie.Else2) →
-  c .before .before .before .before .before .before .before .before .before .before .before .before .args .state .state .0
-  < c .before .before .before .before .before .before .before .before .reading .given .0 .0 .states
+    (c : tie.Else2) →
+    c .before .before .before .before .before .before .before .before .before .before .before .before .args .state .state .0
+    < c .before .before .before .before .before .before .before .before .reading .given .0 .0 .states
 below c = omega (arith, c .before .before .before .if1 .left, c .if2 .left)
 
 branch-requires : tie.Need-branch-requires
@@ -84,9 +84,10 @@ moves-on-requires : tie.Need-moves-on-requires
 moves-on-requires c κs =
     let d = c .before .before .before .before .before in
     let g = d .before .before .before .before .before .before .before .before in
-    let a = g .before .before .before .before .args in
-    (opened g,
-    action-below (a .file .now) (g .reading .given .0 .0) (opened g) (a .state .state) _ (below d) (c .plan-action .ensures))
+    let a = g .before .before .before .before .args in (
+      opened g,
+      action-below (a .file .now) (g .reading .given .0 .0) (opened g) (a .state .state) _ (below d) (c .plan-action .ensures),
+    )
 
 returns-5 : tie.Need-returns-5
 returns-5 c =

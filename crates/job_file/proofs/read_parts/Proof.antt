@@ -28,8 +28,11 @@ returns-3 c =
     let b = c .before .before in
     let m = b .before .before in
     sym (by-cells _ _
-    ∙ rw (sym (m .before .mark-wrong .ensures) ∙ m .if1 .left, sym (b .before .cell-wrong .ensures) ∙ c .before .if2 .left,
-    sym (b .end-wrong .ensures) ∙ c .if3 .taken))
+    ∙ rw (
+      sym (m .before .mark-wrong .ensures) ∙ m .if1 .left,
+      sym (b .before .cell-wrong .ensures) ∙ c .before .if2 .left,
+      sym (b .end-wrong .ensures) ∙ c .if3 .taken,
+    ))
 
 read-starts-and-goal-requires : tie.Need-read-starts-and-goal-requires
 read-starts-and-goal-requires c κs = search needs
@@ -41,8 +44,11 @@ returns-4 c =
     let m = b .before .before in
     c .read-starts-and-goal .ensures
     ∙ sym (by-cells _ _
-    ∙ rw (sym (m .before .mark-wrong .ensures) ∙ m .if1 .left, sym (b .before .cell-wrong .ensures) ∙ e .before .if2 .left,
-    sym (b .end-wrong .ensures) ∙ e .if3 .left))
+    ∙ rw (
+      sym (m .before .mark-wrong .ensures) ∙ m .if1 .left,
+      sym (b .before .cell-wrong .ensures) ∙ e .before .if2 .left,
+      sym (b .end-wrong .ensures) ∙ e .if3 .left,
+    ))
 
 pub read-parts-spec : {M : Type 1} → statement M
 read-parts-spec =

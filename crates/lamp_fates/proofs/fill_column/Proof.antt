@@ -50,9 +50,10 @@ one-round-requires : tie.Need-one-round-requires Inv-loop μ-loop
 one-round-requires c κs =
     let o = c .before .before .loop in
     let f = c .before .before .before .before .before .before .before in
-    let b = f .before .before .before .before .before in
-    (is-column (b .args .file .now) (b .args .job) (b .pre .0) (b .args .column) _ refl (o .reach) (o .table) (o .inv .2),
-    omega (arith, o .inv .1, f .first-entries .kept .1 .1 .1 .0, b .pre .2))
+    let b = f .before .before .before .before .before in (
+      is-column (b .args .file .now) (b .args .job) (b .pre .0) (b .args .column) _ refl (o .reach) (o .table) (o .inv .2),
+      omega (arith, o .inv .1, f .first-entries .kept .1 .1 .1 .0, b .pre .2),
+    )
 
 add-reach : tie.Need-add-reach Inv-loop μ-loop
 add-reach c =
@@ -67,10 +68,12 @@ loop-again : tie.Need-loop-again Inv-loop μ-loop
 loop-again c =
     let r = c .before .before in
     let l = r .before .before .before in
-    let b = l .before .before .before .before .before .before .before .before .before .before in
-    (omega arith, r .one-round .kept .0 ∙ l .loop .inv .1,
-    round-reaches (b .args .file .now) (b .args .job) (b .pre .0) (b .args .column) _ refl (l .loop .reach) (l .loop .table) _
-    (l .loop .inv .2) (r .one-round .ensures))
+    let b = l .before .before .before .before .before .before .before .before .before .before in (
+      omega arith,
+      r .one-round .kept .0 ∙ l .loop .inv .1,
+      round-reaches (b .args .file .now) (b .args .job) (b .pre .0) (b .args .column) _ refl (l .loop .reach) (l .loop .table) _
+          (l .loop .inv .2) (r .one-round .ensures),
+    )
 
 settle-entries-requires : tie.Need-settle-entries-requires Inv-loop μ-loop
 settle-entries-requires c κs =

@@ -23,9 +23,12 @@ column-count-requires c κs = search needs
 
 loop-holds : tie.Need-loop-holds Inv-loop μ-loop
 loop-holds c =
-    let b = c .before .before .before in
-    (omega arith, omega (arith, c .column-count .ensures, few-columns (b .args .file .now) (b .args .job) (b .pre .0)), refl,
-    fates-none _ _)
+    let b = c .before .before .before in (
+      omega arith,
+      omega (arith, c .column-count .ensures, few-columns (b .args .file .now) (b .args .job) (b .pre .0)),
+      refl,
+      fates-none _ _,
+    )
 
 cast-loop : tie.Need-cast-loop Inv-loop μ-loop
 cast-loop c = search needs
@@ -51,9 +54,11 @@ part-fill-column-end c = search needs
 fill-column-requires : tie.Need-fill-column-requires Inv-loop μ-loop
 fill-column-requires c κs =
     let o = c .before .before .loop in
-    let b = c .before .before .before .before .before .before in
-    (b .pre .0, omega (arith, c .before .before .before .column-count .ensures),
-    omega (arith, length-from (o .fates) (o .column * 4160), few-states (b .args .file .now) (b .args .job) (b .pre .0)))
+    let b = c .before .before .before .before .before .before in (
+      b .pre .0,
+      omega (arith, c .before .before .before .column-count .ensures),
+      omega (arith, length-from (o .fates) (o .column * 4160), few-states (b .args .file .now) (b .args .job) (b .pre .0)),
+    )
 
 add-column : tie.Need-add-column Inv-loop μ-loop
 add-column c = omega arith
@@ -65,10 +70,13 @@ loop-again : tie.Need-loop-again Inv-loop μ-loop
 loop-again c =
     let f = c .before .before in
     let o = f .before .before .before .loop in
-    let b = c .before .before .before .before .before .before .before .before .before in
-    (omega arith, o .inv .1, search needs,
-    fates-more _ (o .column) (o .fates) _ (well-formed (b .args .file .now) (b .args .job) (b .pre .0)) (omega arith)
-    (f .fill-column .kept .1 .1 .1 .0 ∙ length-from (o .fates) (o .column * 4160)) (o .inv .3) (f .fill-column .ensures))
+    let b = c .before .before .before .before .before .before .before .before .before in (
+      omega arith,
+      o .inv .1,
+      search needs,
+      fates-more _ (o .column) (o .fates) _ (well-formed (b .args .file .now) (b .args .job) (b .pre .0)) (omega arith)
+          (f .fill-column .kept .1 .1 .1 .0 ∙ length-from (o .fates) (o .column * 4160)) (o .inv .3) (f .fill-column .ensures),
+    )
 
 same-length : tie.Need-same-length Inv-loop μ-loop
 same-length c = c .before .loop .inv .2
@@ -76,9 +84,11 @@ same-length c = c .before .loop .inv .2
 returns : tie.Need-returns Inv-loop μ-loop
 returns c =
     let o = c .before .loop in
-    let b = c .before .before .before .before .before in
-    (job-fates (b .args .file .now) (b .args .job) (b .pre .0) (o .column) (o .fates)
-    (omega (arith, c .before .before .column-count .ensures)) (o .inv .3), o .inv .2 ∙ b .pre .1)
+    let b = c .before .before .before .before .before in (
+      job-fates (b .args .file .now) (b .args .job) (b .pre .0) (o .column) (o .fates)
+          (omega (arith, c .before .before .column-count .ensures)) (o .inv .3),
+      o .inv .2 ∙ b .pre .1,
+    )
 
 pub fill-fates-spec : {M : Type 1} → statement M
 fill-fates-spec =

@@ -39,9 +39,11 @@ loop-less c = omega arith
 
 loop-again : tie.Need-loop-again Inv-loop μ-loop
 loop-again c =
-    let o = c .before .before .loop in
-    (omega arith, search needs,
-    reaches-more _ _ _ (o .i) (c .first-entry .result) (o .table) (omega arith) (o .inv .2) (c .first-entry .ensures))
+    let o = c .before .before .loop in (
+      omega arith,
+      search needs,
+      reaches-more _ _ _ (o .i) (c .first-entry .result) (o .table) (omega arith) (o .inv .2) (c .first-entry .ensures),
+    )
 
 same-length : tie.Need-same-length Inv-loop μ-loop
 same-length c = c .before .loop .inv .1

@@ -45,10 +45,12 @@ loop-less c = omega arith
 loop-again : tie.Need-loop-again Inv-loop μ-loop
 loop-again c =
     let o = c .before .before .before .before .loop in
-    let b = c .before .before .before .before .before .before in
-    (omega arith, search needs,
-    subst (λ (v : ℕ). Doubled (b .args .n) (o .i + 1) (b .args .table .now) (set (o .table) (o .i) v)) (sym (c .follow .ensures))
-    (round-turns (b .args .n) (o .i) (b .args .table .now) (o .table) (omega arith) (omega arith) (o .inv .2)))
+    let b = c .before .before .before .before .before .before in (
+      omega arith,
+      search needs,
+      subst (λ (v : ℕ). Doubled (b .args .n) (o .i + 1) (b .args .table .now) (set (o .table) (o .i) v)) (sym (c .follow .ensures))
+          (round-turns (b .args .n) (o .i) (b .args .table .now) (o .table) (omega arith) (omega arith) (o .inv .2)),
+    )
 
 same-length : tie.Need-same-length Inv-loop μ-loop
 same-length c = c .before .loop .inv .1

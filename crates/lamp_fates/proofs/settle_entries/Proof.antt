@@ -42,10 +42,12 @@ loop-less c = omega arith
 loop-again : tie.Need-loop-again Inv-loop μ-loop
 loop-again c =
     let o = c .before .before .before .loop in
-    let b = c .before .before .before .before .before in
-    (omega arith, search needs,
-    subst (λ (v : ℕ). SettledTo (o .i + 1) (b .args .table .now) (set (o .table) (o .i) v)) (sym (c .settle .ensures))
-    (settles-more (o .i) (b .args .table .now) (o .table) (omega arith) (o .inv .2)))
+    let b = c .before .before .before .before .before in (
+      omega arith,
+      search needs,
+      subst (λ (v : ℕ). SettledTo (o .i + 1) (b .args .table .now) (set (o .table) (o .i) v)) (sym (c .settle .ensures))
+          (settles-more (o .i) (b .args .table .now) (o .table) (omega arith) (o .inv .2)),
+    )
 
 same-length : tie.Need-same-length Inv-loop μ-loop
 same-length c = c .before .loop .inv .1

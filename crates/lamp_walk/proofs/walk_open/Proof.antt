@@ -35,9 +35,12 @@ loop-holds c =
 one-action-requires : tie.Need-one-action-requires Inv-loop μ-loop
 one-action-requires c κs =
     let l = c .before in
-    let b = l .before .before .before .before in
-    (b .pre .0, state-within (b .args .file .now) (b .args .job) (b .pre .0) (pair (l .loop .q) (l .loop .w)) (l .loop .inv .in-range),
-    world-within (b .args .file .now) (b .args .job) (b .pre .0) (pair (l .loop .q) (l .loop .w)) (l .loop .inv .in-range), b .pre .3)
+    let b = l .before .before .before .before in (
+      b .pre .0,
+      state-within (b .args .file .now) (b .args .job) (b .pre .0) (pair (l .loop .q) (l .loop .w)) (l .loop .inv .in-range),
+      world-within (b .args .file .now) (b .args .job) (b .pre .0) (pair (l .loop .q) (l .loop .w)) (l .loop .inv .in-range),
+      b .pre .3,
+    )
 
 enum-known-step : tie.Need-enum-known-step Inv-loop μ-loop
 enum-known-step c = search needs

@@ -57,9 +57,11 @@ run-open-requires : tie.Need-run-open-requires
 run-open-requires c κs =
     let e = c .before .before in
     let g = e .before .before .before in
-    let r = g .before .before in
-    (sym (r .read-job .ensures) ∙ g .reading .given .1, sym (e .before .is-start .ensures) ∙ not-false _ (e .if1 .left),
-    line-right _ _ (sym (c .before .line-wrong .ensures) ∙ c .if2 .left))
+    let r = g .before .before in (
+      sym (r .read-job .ensures) ∙ g .reading .given .1,
+      sym (e .before .is-start .ensures) ∙ not-false _ (e .if1 .left),
+      line-right _ _ (sym (c .before .line-wrong .ensures) ∙ c .if2 .left),
+    )
 
 returns-4 : tie.Need-returns-4
 returns-4 c =

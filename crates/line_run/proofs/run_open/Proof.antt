@@ -31,11 +31,13 @@ walk-open-requires : tie.Need-walk-open-requires Inv-loop μ-loop
 walk-open-requires c κs =
     let l = c .before in
     let b = l .before .before .before .before in
-    let p = pair (l .loop .q) (l .loop .w) in
-    (b .pre .0, state-within (b .args .file .now) (b .args .job) (b .pre .0) p (l .loop .inv .in-range),
-    world-within (b .args .file .now) (b .args .job) (b .pre .0) p (l .loop .inv .in-range),
-    column-in (b .args .job .kinds) (c .column-of .result) (l .loop .rest .now) (tablesOf (b .args .file .now))
-    (c .column-of .ensures (tablesOf (b .args .file .now))) (l .loop .inv .kinds))
+    let p = pair (l .loop .q) (l .loop .w) in (
+      b .pre .0,
+      state-within (b .args .file .now) (b .args .job) (b .pre .0) p (l .loop .inv .in-range),
+      world-within (b .args .file .now) (b .args .job) (b .pre .0) p (l .loop .inv .in-range),
+      column-in (b .args .job .kinds) (c .column-of .result) (l .loop .rest .now) (tablesOf (b .args .file .now))
+          (c .column-of .ensures (tablesOf (b .args .file .now))) (l .loop .inv .kinds),
+    )
 
 enum-known-walked : tie.Need-enum-known-walked Inv-loop μ-loop
 enum-known-walked c = search needs

@@ -32,19 +32,22 @@ unpack-requires c κs = search needs
 read-fate-requires : tie.Need-read-fate-requires
 read-fate-requires c κs =
     let b = c .before .before .before .before .before in
-    let r = b .pre .ready in
-    (r .long, worlds-low _ _ _ r, worlds-high _ _ _ r,
-    rw (c .unpack .ensures) (pair-low _ _ _ r _ (tried-range _ _ _ r _ _ _ _ _ (b .pre .searching))),
-    omega (arith, b .pre .high, r .well-formed .kinds-range .1))
+    let r = b .pre .ready in (
+      r .long,
+      worlds-low _ _ _ r,
+      worlds-high _ _ _ r,
+      rw (c .unpack .ensures) (pair-low _ _ _ r _ (tried-range _ _ _ r _ _ _ _ _ (b .pre .searching))),
+      omega (arith, b .pre .high, r .well-formed .kinds-range .1),
+    )
 
 -- What the table has for the pair is what was read.
 told :
-  (c : tie.After-read-fate) (r : Fate) → c .read-fate .result ≡ r →
-  fateIn (c .before .before .before .before .before .before .args .fates .now)
-  (c .before .before .before .before .before .before .args .worlds)
-  (unpacked (getD (c .before .before .before .before .before .before .args .list .now)
-  (c .before .before .before .before .before .before .args .from) 0) .pair)
-  (c .before .before .before .before .before .before .args .kind) ≡ fateTo r
+    (c : tie.After-read-fate) (r : Fate) → c .read-fate .result ≡ r →
+    fateIn (c .before .before .before .before .before .before .args .fates .now)
+    (c .before .before .before .before .before .before .args .worlds)
+    (unpacked (getD (c .before .before .before .before .before .before .args .list .now)
+    (c .before .before .before .before .before .before .args .from) 0) .pair)
+    (c .before .before .before .before .before .before .args .kind) ≡ fateTo r
 told c r e =
     let a = c .before .before .before .before .before .before .args in
     ap (λ (p : Placed). fateIn (a .fates .now) (a .worlds) (p .pair) (a .kind)) (sym (c .before .unpack .ensures))
@@ -69,9 +72,9 @@ visit-requires c κs =
       ready = r;
       listed = b .pre .searching .listed;
       pair-range =
-        arrival-range _ _ _ r _ _ _ _ _ (b .pre .searching) (b .pre .high) _ (told (f .before .before) _ (f .fate2 .given .1));
+          arrival-range _ _ _ r _ _ _ _ _ (b .pre .searching) (b .pre .high) _ (told (f .before .before) _ (f .fate2 .given .1));
       parent-range = omega (arith, tried-below _ _ _ r _ _ _ _ _ (b .pre .searching), pairs-few _ _ _ r);
-      kind-range = omega (arith, b .pre .high, r .well-formed .kinds-range .1)
+      kind-range = omega (arith, b .pre .high, r .well-formed .kinds-range .1);
     }
 
 returns : tie.Need-returns

@@ -25,14 +25,18 @@ row-requires-2 c κs = search needs
 add-pair : tie.Need-add-pair
 add-pair c =
     let a = c .before .before .before .before .before .before .before .before .before .args in
-    omega (arith, c .before .row .ensures, c .row2 .ensures,
-    product-le 255 255 (a .job .first .0) (a .job .worlds) (omega arith) (omega arith))
+    omega (
+      arith,
+      c .before .row .ensures,
+      c .row2 .ensures,
+      product-le 255 255 (a .job .first .0) (a .job .worlds) (omega arith) (omega arith),
+    )
 
 -- The number that is visited is that of the start's pair.
 number-is :
-  (c : tie.After-row2) → c .before .row .result + c .row2 .result
-  ≡ startNode (tablesOf (c .before .before .before .before .before .before .before .before .before .args .file .now))
-  (c .before .before .before .before .before .before .before .before .before .args .s)
+    (c : tie.After-row2) → c .before .row .result + c .row2 .result
+    ≡ startNode (tablesOf (c .before .before .before .before .before .before .before .before .before .args .file .now))
+    (c .before .before .before .before .before .before .before .before .before .args .s)
 number-is c =
     let b = c .before .before .before .before .before .before .before .before .before in
     ap₂ _+_ (c .before .row .ensures) (c .row2 .ensures)
@@ -48,9 +52,9 @@ visit-requires c κs =
       ready = b .pre .1;
       listed = b .pre .2 .listed;
       pair-range =
-        start-range _ _ _ (b .pre .1) _ _ _ _ (b .pre .2) _ (number-is w) (sym (e .before .is-start .ensures) ∙ e .if1 .taken);
+          start-range _ _ _ (b .pre .1) _ _ _ _ (b .pre .2) _ (number-is w) (sym (e .before .is-start .ensures) ∙ e .if1 .taken);
       parent-range = omega arith;
-      kind-range = omega arith
+      kind-range = omega arith;
     }
 
 same-length : tie.Need-same-length

@@ -61,11 +61,11 @@ loop-again c =
     let o = p .before .before .before .before .before .loop in
     record {
       starting =
-        start-held _ _ (p .place-start .result) (p .place-start .last .1 .1 .1 .0) (p .place-start .last .1 .1 .1 .1 .0)
-        (p .place-start .ensures) _ (c .before .turn2 .given .1);
+          start-held _ _ (p .place-start .result) (p .place-start .last .1 .1 .1 .0) (p .place-start .last .1 .1 .1 .1 .0)
+          (p .place-start .ensures) _ (c .before .turn2 .given .1);
       within = omega arith;
       list-length = p .place-start .kept .1 .1 .1 .0 ∙ o .inv .list-length;
-      words-length = p .place-start .kept .1 .1 .1 .1 .0 ∙ o .inv .words-length
+      words-length = p .place-start .kept .1 .1 .1 .1 .0 ∙ o .inv .words-length;
     }
 
 same-length-3 : tie.Need-same-length-3 Inv-loop μ-loop

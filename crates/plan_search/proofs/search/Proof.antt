@@ -24,12 +24,12 @@ enum-known-halted-3 c = search needs
 
 -- The line that fails at a lamp.
 fails-at :
-  (c : tie.After-known-told3) →
-  LampFails (tablesOf (c .before .before .before .before .before .before .before .before .before .before
-  .before .before .before .before .before .args .file .now))
-  (c .before .before .before .before .before .before .before .search-pairs .last .1 .1 .1 .0)
-  (c .before .halted3 .given .0 .1 .0) (c .before .halted3 .given .0 .1 .1 .0) (c .before .halted3 .given .0 .1 .1 .1 .0)
-  (c .before .halted3 .given .0 .0)
+    (c : tie.After-known-told3) →
+    LampFails (tablesOf (c .before .before .before .before .before .before .before .before .before .before
+    .before .before .before .before .before .args .file .now))
+    (c .before .before .before .before .before .before .before .search-pairs .last .1 .1 .1 .0)
+    (c .before .halted3 .given .0 .1 .0) (c .before .halted3 .given .0 .1 .1 .0) (c .before .halted3 .given .0 .1 .1 .1 .0)
+    (c .before .halted3 .given .0 .0)
 fails-at c =
     let p = c .before .before .before .before .before .before .before in
     halted-lamp _ (p .search-pairs .result) (p .search-pairs .last .1 .1 .1 .0) (p .search-pairs .ensures) _ _ _ _
@@ -57,26 +57,36 @@ write-line-requires c κs =
     let k = c .before .before .before .before in
     let f = fails-at k in
     let p = k .before .before .before .before .before .before .before in
-    let b = p .before .before .before .before .before .before .before .before in
-    (f .chained, in-taken _ _ _ _ _ _ f, omega (arith, taken-size _ _ _ _ _ _ f, f .few),
-    line-fits _ _ (b .pre .0 .opened) _ _ _ _ _ f _ _ (c .before .before .lamps-before .ensures) (b .pre .1),
-    c .before .before .lamps-before .ensures, start-small _ _ _ _ _ _ f (well-formed _ _ (b .pre .0 .opened)))
+    let b = p .before .before .before .before .before .before .before .before in (
+      f .chained,
+      in-taken _ _ _ _ _ _ f,
+      omega (arith, taken-size _ _ _ _ _ _ f, f .few),
+      line-fits _ _ (b .pre .0 .opened) _ _ _ _ _ f _ _ (c .before .before .lamps-before .ensures) (b .pre .1),
+      c .before .before .lamps-before .ensures,
+      start-small _ _ _ _ _ _ f (well-formed _ _ (b .pre .0 .opened)),
+    )
 
 cast-t28 : tie.Need-cast-t28
 cast-t28 c =
     let k = c .before .before .before .before .before .before .before in
     let p = k .before .before .before .before .before .before .before in
     let b = p .before .before .before .before .before .before .before .before in
-    omega (arith, c .before .before .before .before .before .lamps-before .ensures,
-    lamps-few _ _ _ _ _ _ (fails-at k) (well-formed _ _ (b .pre .0 .opened)))
+    omega (
+      arith,
+      c .before .before .before .before .before .lamps-before .ensures,
+      lamps-few _ _ _ _ _ _ (fails-at k) (well-formed _ _ (b .pre .0 .opened)),
+    )
 
 add-t29 : tie.Need-add-t29
 add-t29 c =
     let k = c .before .before .before .before .before .before .before in
     let p = k .before .before .before .before .before .before .before in
     let b = p .before .before .before .before .before .before .before .before in
-    omega (arith, c .before .before .before .before .before .lamps-before .ensures,
-    lamps-few _ _ _ _ _ _ (fails-at k) (well-formed _ _ (b .pre .0 .opened)))
+    omega (
+      arith,
+      c .before .before .before .before .before .lamps-before .ensures,
+      lamps-few _ _ _ _ _ _ (fails-at k) (well-formed _ _ (b .pre .0 .opened)),
+    )
 
 same-length : tie.Need-same-length
 same-length c = search needs
@@ -86,9 +96,11 @@ same-length-2 c = search needs
 
 returns : tie.Need-returns
 returns c =
-    let p = c .before .before .before .before .before .before .before in
-    (halted-through _ (p .search-pairs .result) (p .search-pairs .last .1 .1 .1 .0) (p .search-pairs .ensures) _
-    (c .before .halted .given .1), refl)
+    let p = c .before .before .before .before .before .before .before in (
+      halted-through _ (p .search-pairs .result) (p .search-pairs .last .1 .1 .1 .0) (p .search-pairs .ensures) _
+          (c .before .halted .given .1),
+      refl,
+    )
 
 same-length-3 : tie.Need-same-length-3
 same-length-3 c = search needs

@@ -48,9 +48,11 @@ clear-bits-requires c κs =
 place-starts-requires : tie.Need-place-starts-requires Inv-loop μ-loop Inv-search μ-search
 place-starts-requires c κs =
     let k = c .before .before .before .before in
-    let b = k .before .before .before .before .before .before .before .before in
-    (b .pre .opened, ready-for _ _ _ _ _ (b .pre),
-    search-begins _ _ _ _ _ (b .pre) (k .clear-bits .last .0) (k .clear-bits .kept .0) (k .clear-bits .ensures))
+    let b = k .before .before .before .before .before .before .before .before in (
+      b .pre .opened,
+      ready-for _ _ _ _ _ (b .pre),
+      search-begins _ _ _ _ _ (b .pre) (k .clear-bits .last .0) (k .clear-bits .kept .0) (k .clear-bits .ensures),
+    )
 
 enum-known-starts : tie.Need-enum-known-starts Inv-loop μ-loop Inv-search μ-search
 enum-known-starts c = search needs
@@ -92,7 +94,7 @@ one-turn-requires c κs =
       tables = tablesOf (b .args .file .now);
       ready = ready-for _ _ _ _ _ (b .pre);
       searching = l .loop .inv .searching;
-      high = omega (arith, e .if1 .taken, job-kinds _ _ _ _ _ (b .pre))
+      high = omega (arith, e .if1 .taken, job-kinds _ _ _ _ _ (b .pre));
     }
 
 enum-known-turn : tie.Need-enum-known-turn Inv-loop μ-loop Inv-search μ-search
@@ -122,13 +124,13 @@ loop-again c =
     let b = p .before .before .before .before .before .before .before .before .before .before .before .before .before in
     record {
       searching =
-        lamp-held _ _ _ (ready-for _ _ _ _ _ (b .pre)) _ _ _ _ _ (l .loop .inv .searching) (o .one-turn .result)
-        (o .one-turn .last .1 .1 .0) (o .one-turn .last .1 .1 .1 .0)
-        (o .one-turn .ensures _ (ready-for _ _ _ _ _ (b .pre)) (l .loop .inv .searching)
-    (omega (arith, e .if1 .taken, job-kinds _ _ _ _ _ (b .pre)))) _ (c .before .turn2 .given .1);
+          lamp-held _ _ _ (ready-for _ _ _ _ _ (b .pre)) _ _ _ _ _ (l .loop .inv .searching) (o .one-turn .result)
+          (o .one-turn .last .1 .1 .0) (o .one-turn .last .1 .1 .1 .0)
+          (o .one-turn .ensures _ (ready-for _ _ _ _ _ (b .pre)) (l .loop .inv .searching)
+          (omega (arith, e .if1 .taken, job-kinds _ _ _ _ _ (b .pre)))) _ (c .before .turn2 .given .1);
       high = omega (arith, e .if1 .taken, job-kinds _ _ _ _ _ (b .pre));
       list-length = o .one-turn .kept .1 .1 .0 ∙ l .loop .inv .list-length;
-      words-length = o .one-turn .kept .1 .1 .1 .0 ∙ l .loop .inv .words-length
+      words-length = o .one-turn .kept .1 .1 .1 .0 ∙ l .loop .inv .words-length;
     }
 
 add-from : tie.Need-add-from Inv-loop μ-loop Inv-search μ-search
@@ -161,11 +163,11 @@ search-again c =
     let b = p .before .before .before .before .before .before .before .before .before .before .before .before .before in
     record {
       searching =
-        next-pair _ _ _ (ready-for _ _ _ _ _ (b .pre)) _ _ _ _ (l .loop .kind) (l .loop .inv .searching)
-        (omega (arith, c .before .if1 .left, l .loop .inv .high, job-kinds _ _ _ _ _ (b .pre))) (c .if2 .left);
+          next-pair _ _ _ (ready-for _ _ _ _ _ (b .pre)) _ _ _ _ (l .loop .kind) (l .loop .inv .searching)
+          (omega (arith, c .before .if1 .left, l .loop .inv .high, job-kinds _ _ _ _ _ (b .pre))) (c .if2 .left);
       high = omega arith;
       list-length = l .loop .inv .list-length ∙ l .before .search .inv .list-length;
-      words-length = l .loop .inv .words-length ∙ l .before .search .inv .words-length
+      words-length = l .loop .inv .words-length ∙ l .before .search .inv .words-length;
     }
 
 same-length-3 : tie.Need-same-length-3 Inv-loop μ-loop Inv-search μ-search

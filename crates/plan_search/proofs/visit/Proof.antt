@@ -59,9 +59,9 @@ pack-requires c κs =
 
 -- There is room for the pair.
 room :
-  (c : tie.After-pack) →
-  c .before .before .before .before .before .before .before .before .before .before .before .before .before .args .count
-  < pairs (c .before .before .before .before .before .before .before .before .before .before .before .before .before .pre .tables)
+    (c : tie.After-pack) →
+    c .before .before .before .before .before .before .before .before .before .before .before .before .before .args .count
+    < pairs (c .before .before .before .before .before .before .before .before .before .before .before .before .before .pre .tables)
 room c =
     let e = c .before .before .before .before .before .before .before in
     let b = e .before .before .before .before .before .before in
@@ -100,7 +100,7 @@ returns-2 c =
       good = λ kind f. no-failure (m .before .read-fate .result) (m .match .keys2) kind (m .before .read-fate .ensures ∙ f);
       count = refl;
       stored = ap (set (b .args .list .now) (b .args .count)) (c .pack .ensures);
-      only = c .before .before .before .set-bit .ensures
+      only = c .before .before .before .set-bit .ensures;
     })
 
 same-length-4 : tie.Need-same-length-4
@@ -109,11 +109,13 @@ same-length-4 c = search needs
 returns-3 : tie.Need-returns-3
 returns-3 c =
     let r = c .before .before .before in
-    let e = r .before in
-    (record {
-      unmarked = sym (e .before .is-set .ensures) ∙ e .if1 .left;
-      fails-so = sym (r .read-fate .ensures) ∙ ap fateTo (c .before .end .given .1)
-    }, refl)
+    let e = r .before in (
+      record {
+        unmarked = sym (e .before .is-set .ensures) ∙ e .if1 .left;
+        fails-so = sym (r .read-fate .ensures) ∙ ap fateTo (c .before .end .given .1);
+      },
+      refl,
+    )
 
 pub visit-spec : {M : Type 1} → statement M
 visit-spec =

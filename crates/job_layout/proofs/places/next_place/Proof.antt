@@ -36,9 +36,9 @@ cast-result-2 c = search needs
 
 -- what the four needs below have in common
 bound :
-  (c : tie.After-column-count) →
-  (c .before .before .before .before .args .action * c .before .before .before .before .args .job .worlds + c .before .before .row .result)
-  * c .column-count .result ≤ 65280 * 65535
+    (c : tie.After-column-count) →
+    (c .before .before .before .before .args .action * c .before .before .before .before .args .job .worlds + c .before .before .row .result)
+    * c .column-count .result ≤ 65280 * 65535
 bound c =
     let a = c .before .before .before .before .args in
     cell-fits (a .action) (a .job .worlds) (c .before .before .row .result) (c .column-count .result)

@@ -24,15 +24,24 @@ returns-4 : tie.Need-returns-4
 unfolding fateFrom
 returns-4 c =
     let b = c .before .before in
-    simp (ne-eqb _ _ (b .before .if1 .left), ne-eqb _ _ (b .if2 .left), ne-eqb _ _ (c .before .if3 .left),
-    eq-eqb _ _ (c .if4 .taken))
+    simp (
+      ne-eqb _ _ (b .before .if1 .left),
+      ne-eqb _ _ (b .if2 .left),
+      ne-eqb _ _ (c .before .if3 .left),
+      eq-eqb _ _ (c .if4 .taken),
+    )
 
 returns-5 : tie.Need-returns-5
 unfolding fateFrom
 returns-5 c =
     let b = c .before .before in
-    simp (ne-eqb _ _ (b .before .before .if1 .left), ne-eqb _ _ (b .before .if2 .left), ne-eqb _ _ (b .if3 .left),
-    ne-eqb _ _ (c .before .if4 .left), lt-ltb _ _ (c .if5 .taken))
+    simp (
+      ne-eqb _ _ (b .before .before .if1 .left),
+      ne-eqb _ _ (b .before .if2 .left),
+      ne-eqb _ _ (b .if3 .left),
+      ne-eqb _ _ (c .before .if4 .left),
+      lt-ltb _ _ (c .if5 .taken),
+    )
 
 cast-code : tie.Need-cast-code
 cast-code c = search needs
@@ -51,8 +60,13 @@ returns-6 : tie.Need-returns-6
 unfolding fateFrom
 returns-6 c =
     let b = c .before .before in
-    simp (ne-eqb _ _ (b .before .before .if1 .left), ne-eqb _ _ (b .before .if2 .left), ne-eqb _ _ (b .if3 .left),
-    ne-eqb _ _ (c .before .if4 .left), le-ltb _ _ (c .if5 .left))
+    simp (
+      ne-eqb _ _ (b .before .before .if1 .left),
+      ne-eqb _ _ (b .before .if2 .left),
+      ne-eqb _ _ (b .if3 .left),
+      ne-eqb _ _ (c .before .if4 .left),
+      le-ltb _ _ (c .if5 .left),
+    )
 
 pub fate-of-spec : {M : Type 1} → statement M
 fate-of-spec =

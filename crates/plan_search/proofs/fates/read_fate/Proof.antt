@@ -30,14 +30,21 @@ fate-place-requires c κs = search needs
 mul-fate-of : tie.Need-mul-fate-of
 mul-fate-of c =
     let b = c .before .before in
-    omega (arith, c .fate-place .ensures,
-    place-in-table (b .args .pair) (b .args .worlds) (b .args .column) (b .pre .1) (b .pre .2) (b .pre .3) (b .pre .4))
+    omega (
+      arith,
+      c .fate-place .ensures,
+      place-in-table (b .args .pair) (b .args .worlds) (b .args .column) (b .pre .1) (b .pre .2) (b .pre .3) (b .pre .4),
+    )
 
 shared-slice-read-fate-of : tie.Need-shared-slice-read-fate-of
 shared-slice-read-fate-of c =
     let b = c .before .before .before in
-    omega (arith, c .before .fate-place .ensures, b .pre .0,
-    place-in-table (b .args .pair) (b .args .worlds) (b .args .column) (b .pre .1) (b .pre .2) (b .pre .3) (b .pre .4))
+    omega (
+      arith,
+      c .before .fate-place .ensures,
+      b .pre .0,
+      place-in-table (b .args .pair) (b .args .worlds) (b .args .column) (b .pre .1) (b .pre .2) (b .pre .3) (b .pre .4),
+    )
 
 fate-of-requires : tie.Need-fate-of-requires
 fate-of-requires c κs = search needs

@@ -35,10 +35,13 @@ cast-t15 c =
     let u = c .before .before .before in
     let l = u .before .before in
     let b = l .before .before .before in
-    omega (arith, b .pre .5,
-    written-all (b .args .list .now) (b .pre .0) (l .loop .place) (u .unpack .result) (u .unpack .ensures) (b .args .line .now)
-    (b .args .from) (b .args .kind) (b .args .lamps) (l .loop .line) (l .loop .at) (l .loop .lamp) (l .loop .inv)
-    (c .before .if1 .taken) .0)
+    omega (
+      arith,
+      b .pre .5,
+      written-all (b .args .list .now) (b .pre .0) (l .loop .place) (u .unpack .result) (u .unpack .ensures) (b .args .line .now)
+          (b .args .from) (b .args .kind) (b .args .lamps) (l .loop .line) (l .loop .at) (l .loop .lamp) (l .loop .inv)
+          (c .before .if1 .taken) .0,
+    )
 
 same-length : tie.Need-same-length Inv-loop μ-loop
 same-length c =
@@ -51,7 +54,7 @@ returns c =
     let l = u .before .before in
     let b = l .before .before .before in
     let w = written-all (b .args .list .now) (b .pre .0) (l .loop .place) (u .unpack .result) (u .unpack .ensures)
-          _ _ _ _ _ _ _ (l .loop .inv) (c .before .if1 .taken) in
+    _ _ _ _ _ _ _ (l .loop .inv) (c .before .if1 .taken) in
     record { start-is = w .0; line-is = w .1 }
 
 sub-at : tie.Need-sub-at Inv-loop μ-loop
