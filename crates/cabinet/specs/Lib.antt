@@ -1,1 +1,2 @@
 pub mod CabinetAnswers
+pub mod ReadsPlan

@@ -8,6 +8,7 @@ use Prim.Native.Nat.{ℕ, _+_, _*_, _≤_}
 use native.Mathlib.Omega.{arith}
 use lib.ListN.{length, take}
 use Rattle.plans.specs.Execution.{Label, resultOf, Correct}
+use Rattle.lamp_line.specs.declared.ProgramState.{ProgramState}
 use Rattle.lamp_line.specs.declared.WorldState.{WorldState}
 use Rattle.lamp_line.specs.declared.Cabinet.{Cabinet}
 use Rattle.lamp_line.specs.declared.Ending.{Ending}
@@ -16,8 +17,9 @@ use Rattle.lamp_line.specs.Tables.{Tables, Line, Fits, Situation, lampProblem, 
 use Rattle.lamp_line.specs.Refusals.{Rule, refusal, orRefused, answerBy}
 use Rattle.lamp_line.specs.Check.{situation, Accepts, Counterexample, Right}
 use Rattle.lamp_line.specs.Endings.{Ends, Leads}
-use Rattle.lamp_line.specs.Cabinet.{Call, begin, Reports}
+use Rattle.lamp_line.specs.Cabinet.{Call, report, begin, Reports}
 use Rattle.lamp_line.specs.Promises.{Run-of, Execution, Served}
+use Rattle.cabinet_laws.proofs.Following.{cabinet-follows}
 use Rattle.cabinet_laws.proofs.Serving.{cabinet-serves}
 use Rattle.job_layout.specs.declared.Job.{Job}
 use Rattle.job_layout.specs.Layout.{head}
@@ -120,6 +122,19 @@ cabinet-served s count before after checked start lamps line =
       answers = λ calls reports. owed-follows s (head s) opened (served .answers calls reports) refl;
       leaves = λ calls reports. left-follows s (head s) opened _ calls ∙ served .leaves calls reports;
     }
+
+-- ---- the cabinet along any run
+
+-- "A cabinet begun with a line's count and fed, one report for each counted step, the results which the tables give along it takes
+-- the states of that line's run", whether the plan is accepted or not.
+pub cabinet-follows-on-file : (s : List ℕ) (j : Job) → Opened s j → (start : WorldState) (lamps : List ℕ) →
+    Run-of (tablesOf s) start (lineOf lamps) → (ls : List Label) (q : ProgramState) (at : Situation) →
+    Execution (tablesOf s) start (lineOf lamps) ls q at →
+    leftBy s (begin (tablesOf s) (length lamps)) (map (λ l. report (resultOf l)) ls)
+    ≡ record { state = q; lamps = length (at .rest .lamps) }
+cabinet-follows-on-file s j opened start lamps of ls q at execution =
+    left-follows s j opened _ _
+    ∙ cabinet-follows (tablesOf s) (well-formed s j opened) start (lineOf lamps) of ls q at execution
 
 -- ---- runs after a check
 

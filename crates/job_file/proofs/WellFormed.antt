@@ -188,7 +188,8 @@ module _ (s : List ℕ) (j : Job) where
         (worldState (found .0), rw (lt-ltb _ _ (found .1)) (found .2))
 
     action-range : (q : ProgramState) → q .0 < j .states → tablesBy s j .action q < j .actions
-    action-range q q< = leb-false _ _ (none-at (actionWrongAt s j) (j .states) (none-applies .actions) (q .0) q<)
+    action-range q q< =
+        rw (lt-ltb _ _ q<) (leb-false _ _ (none-at (actionWrongAt s j) (j .states) (none-applies .actions) (q .0) q<))
 
     target-range : (q q′ : ProgramState) (r : Result) → tablesBy s j .target q r ≡ some q′ →
         (r < j .results) × (q′ .0 ≤ j .states)

@@ -1,5 +1,5 @@
 -- The tables of a job file (document 01, "Job file", parts 1 to 5): the one definition that turns bytes into tables.
--- Outside its range a table has no outcome, no branch, no start and no goal.
+-- Outside its range a table has no outcome, no branch, no start and no goal, and mark and action 0.
 use mathlib.Core.Bool.{cond, _&&_}
 use mathlib.Core.Option.{Option, none, some}
 use mathlib.Core.List.{List, [], _∷_}
@@ -34,7 +34,7 @@ tablesBy s j =
           [];
       start = λ w. ltb (w .0) (j .worlds) && eqb (byte s (startPlace j w)) 1;
       goal = λ w c. ltb (w .0) (j .worlds) && ltb c (columns (j .kinds)) && eqb (byte s (goalPlace j w c)) 1;
-      action = λ q. byte s (actionPlace j q);
+      action = λ q. cond (ltb (q .0) (j .states)) (byte s (actionPlace j q)) 0;
       target = λ q r. cond (ltb (q .0) (j .states) && ltb r (j .results)) (branch (byte s (targetPlace j q r))) none;
     }
 

@@ -73,8 +73,8 @@ module _ (s : List ℕ) (j : Job) (opened : Opened s j) where
   goal-is w c w< c< =
       subst (λ (t : Tables). eqb (byte s (goalPlace j w c)) 1 ≡ t .goal w c) by-head (rw (lt-ltb _ _ w<, lt-ltb _ _ c<))
 
-  pub action-is : (q : ProgramState) → byte s (actionPlace j q) ≡ tablesOf s .action q
-  action-is q = ap (λ (t : Tables). t .action q) by-head
+  pub action-is : (q : ProgramState) → q .0 < j .states → byte s (actionPlace j q) ≡ tablesOf s .action q
+  action-is q q< = subst (λ (t : Tables). byte s (actionPlace j q) ≡ t .action q) by-head (rw (lt-ltb _ _ q<))
 
   module _ (q : ProgramState) (r : Result) (q< : q .0 < j .states) (r< : r < j .results) where
     target-is : branch (byte s (targetPlace j q r)) ≡ tablesOf s .target q r

@@ -15,7 +15,7 @@ shared-slice-read-result c =
 returns : tie.Need-returns
 returns c =
     let b = c .before .before .before in
-    rw (c .before .action-place .ensures) (action-is (b .args .file .now) (b .args .job) (b .pre .0) (b .args .state))
+    rw (c .before .action-place .ensures) (action-is (b .args .file .now) (b .args .job) (b .pre .0) (b .args .state) (b .pre .1))
 
 pub plan-action-spec : {M : Type 1} → statement M
 plan-action-spec = tie.close (tie.spec action-place-requires shared-slice-read-result returns)
