@@ -27,11 +27,6 @@ use Rattle.cabinet.specs.CabinetAnswers.{actionOf, reportOf, keeping, be
 
 -- ---- a refused file
 
--- The number that is taken out of the reader's refusal is the one that it refuses with.
-pub reading-refused : (s : List ℕ) (x : Reading) (n number : ℕ) →
-    x ≡ readingOf s → x ≡ reading.Refused n → number ≡ refusalOf x → readingOf s ≡ reading.Refused number
-reading-refused s x n number read told taken-out = sym read ∙ told ∙ ap reading.Refused (sym (taken-out ∙ ap refusalOf told))
-
 module _ (s : List ℕ) (number : ℕ) (e : readingOf s ≡ reading.Refused number) where
   -- The beginning gives its number.
   pub begin-file-refused : (count : ℕ) → begun.Refused number ≡ beginAnswer s count

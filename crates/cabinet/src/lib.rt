@@ -6,14 +6,14 @@ ghost use Rattle.job_layout.specs.JobTables.{tablesOf};
 ghost use Rattle.job_file.specs.Reading.{Opened};
 ghost use Rattle.job_tables.specs.Entries.{targetOf};
 ghost use Rattle.cabinet.specs.CabinetAnswers.{beginAnswer, actionAnswer, reportAnswer};
+use job_file::Reading;
 use job_file::read_job;
 use job_file::refusal_number;
-use job_file::Reading;
 use job_layout::Job;
+use job_tables::Target;
 use job_tables::moves_on;
 use job_tables::plan_action;
 use job_tables::plan_target;
-use job_tables::Target;
 use lamp_line::Cabinet;
 use lamp_line::ProgramState;
 
@@ -45,7 +45,10 @@ pub fn begin(file: &[u8], count: u16) -> BeginAnswer
         return BeginAnswer::Refused(refusal_number(reading));
     };
     let first = job.first;
-    BeginAnswer::Begun(Cabinet { state: first, lamps: count })
+    BeginAnswer::Begun(Cabinet {
+        state: first,
+        lamps: count,
+    })
 }
 
 // The action to be done in a state, or Ended in state S, for any file and state.
@@ -98,11 +101,17 @@ pub fn report(file: &[u8], state: Cabinet, result: u8) -> ReportAnswer
     };
     let action = plan_action(file, job, from);
     if !moves_on(file, job, action) {
-        return ReportAnswer::Taken(Cabinet { state: to, lamps: lamps });
+        return ReportAnswer::Taken(Cabinet {
+            state: to,
+            lamps: lamps,
+        });
     }
     if lamps == 0 {
         return ReportAnswer::Refused(19, state);
     }
     let left = lamps - 1;
-    ReportAnswer::Taken(Cabinet { state: to, lamps: left })
+    ReportAnswer::Taken(Cabinet {
+        state: to,
+        lamps: left,
+    })
 }

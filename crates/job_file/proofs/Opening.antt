@@ -9,8 +9,14 @@ use Rattle.lamp_line.specs.Refusals.{Rule, refusal, orRefused, answerBy}
 use Rattle.lamp_line.proofs.Answering.{by-rules-before}
 use Rattle.job_layout.specs.declared.Job.{Job}
 use Rattle.job_layout.specs.Layout.{head}
+use Rattle.job_file.specs.declared.Reading.{Reading}
 use Rattle.job_file.specs.declared.Reading.the-variants as reading
-use Rattle.job_file.specs.Reading.{fileRules, readingOf, Opened}
+use Rattle.job_file.specs.Reading.{fileRules, readingOf, refusalOf, Opened}
+
+-- The number that is taken out of the reader's refusal is the one that it refuses with.
+pub reading-refused : (s : List ℕ) (x : Reading) (n number : ℕ) →
+    x ≡ readingOf s → x ≡ reading.Refused n → number ≡ refusalOf x → readingOf s ≡ reading.Refused number
+reading-refused s x n number read told taken-out = sym read ∙ told ∙ ap reading.Refused (sym (taken-out ∙ ap refusalOf told))
 
 module _ {A : Type 0} (refused : ℕ → A) (s : List ℕ) (more : List Rule) (answer : A) where
   -- A refused file.

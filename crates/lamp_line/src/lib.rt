@@ -1,6 +1,7 @@
 // The terms of document 01 as types. What they mean is defined in specs/.
 ghost use mathlib.Core.Path.{_≡_};
 ghost use Prim.Native.Nat.{_*_};
+ghost use Rattle.lamp_line.specs.Endings.{kindNumber};
 
 // A program state and a world state are two sorts of number (01, "The line and its tables"). A value of one sort does not pass
 // for a value of the other, and each becomes a place in a table by one function only.
@@ -38,6 +39,18 @@ pub enum FailureKind {
     NoBranch,
     Circles,
     GoalFalse,
+}
+
+// The papers' number of a failure.
+pub fn failure_number(kind: FailureKind) -> u8
+    ensures { λ r. ⌜ r ≡ kindNumber kind ⌝ }
+{
+    match kind {
+        FailureKind::NotLegal => 1,
+        FailureKind::NoBranch => 2,
+        FailureKind::Circles => 3,
+        FailureKind::GoalFalse => 4,
+    }
 }
 
 // How a run ends (01, "One run").

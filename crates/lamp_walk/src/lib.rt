@@ -75,6 +75,8 @@ fn try_action(file: &[u8], job: Job, state: ProgramState, world: WorldState, col
     Move::Stays(to, next)
 }
 
+// One action from any program state, state S among them. It is for the crates above and not for users: it asks for the job that the
+// reader answered for this file, and for numbers within the tables.
 pub fn one_action(file: &[u8], job: Job, state: ProgramState, world: WorldState, column: u8) -> Move
     requires { ⌜ Opened (now file) job × (state .0 ≤ job .states) × (world .0 < job .worlds) × (column < columns (job .kinds)) ⌝ }
     ensures { λ r. ⌜ moveOf r ≡ act (tablesOf (now (file .entry))) (pair state world) column ⌝ }

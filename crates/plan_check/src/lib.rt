@@ -5,15 +5,15 @@ ghost use lib.ListN.{length};
 ghost use Rattle.job_layout.specs.JobTables.{tablesOf};
 ghost use Rattle.plan_search.specs.Answer.{Finds};
 ghost use Rattle.plan_check.specs.CheckAnswers.{answerOf, Room, Checked};
+use job_file::Reading;
 use job_file::read_job;
 use job_file::refusal_number;
-use job_file::Reading;
 use job_layout::Job;
 use lamp_fates::fill_fates;
 use lamp_line::FailureKind;
 use lamp_line::WorldState;
-use plan_search::search;
 use plan_search::Found;
+use plan_search::search;
 
 // A failure: its kind, the start, and the number of lamps of its line.
 pub struct Failure {
@@ -34,7 +34,14 @@ fn answer(found: Found) -> CheckAnswer
 {
     match found {
         Found::Accepted(count) => CheckAnswer::Accepted(count),
-        Found::Failed(kind, start, lamps) => CheckAnswer::Failed(Failure { kind: kind, start: start, lamps: lamps }),
+        Found::Failed(kind, start, lamps) => {
+            let failure = Failure {
+                kind: kind,
+                start: start,
+                lamps: lamps,
+            };
+            CheckAnswer::Failed(failure)
+        }
     }
 }
 
@@ -52,8 +59,8 @@ fn find(file: &[u8], job: Job, line: &mut [u8], list: &mut [u32], words: &mut [u
 // The check of the plan of any file, with a lent line buffer, working list and words of any size and content.
 pub fn check_plan(file: &[u8], line: &mut [u8], list: &mut [u32], words: &mut [u64]) -> CheckAnswer
     ensures { λ r. ⌜ Checked (now (file .entry)) r
-      (record { line = now (line .entry); list = now (list .entry); words = now (words .entry) })
-      (record { line = now (line .exit); list = now (list .exit); words = now (words .exit) }) ⌝ }
+        (record { line = now (line .entry); list = now (list .entry); words = now (words .entry) })
+        (record { line = now (line .exit); list = now (list .exit); words = now (words .exit) }) ⌝ }
 {
     let reading = read_job(file);
     let Reading::Job(job) = reading else {

@@ -67,10 +67,17 @@ pub enum Found {
 }
 
 // A pair is placed in the list unless its bit is set. It is tested at the line's end at that moment.
-fn visit(fates: &[u16], worlds: u8, list: &mut [u32], words: &mut [u64], count: usize, placed: Placed) -> Turn
+fn visit(
+    fates: &[u16],
+    worlds: u8,
+    list: &mut [u32],
+    words: &mut [u64],
+    count: usize,
+    placed: Placed,
+) -> Turn
     requires { ⌜ CanVisit (now fates) worlds (now list) (now words) count placed ⌝ }
     ensures { λ r. ⌜ Came (now (fates .entry)) worlds (now (list .entry)) (now (words .entry)) count placed
-      r (now (list .exit)) (now (words .exit)) ⌝ }
+        r (now (list .exit)) (now (words .exit)) ⌝ }
 {
     if is_set(words, placed.pair) {
         return Turn::Holds(count);
@@ -85,10 +92,18 @@ fn visit(fates: &[u16], worlds: u8, list: &mut [u32], words: &mut [u64], count: 
 }
 
 // One placed pair is tried with one kind of lamp.
-fn one_turn(fates: &[u16], worlds: u8, list: &mut [u32], words: &mut [u64], count: usize, from: usize, kind: u8) -> Turn
+fn one_turn(
+    fates: &[u16],
+    worlds: u8,
+    list: &mut [u32],
+    words: &mut [u64],
+    count: usize,
+    from: usize,
+    kind: u8,
+) -> Turn
     requires { ⌜ CanTurn (now fates) worlds (now list) (now words) count from kind ⌝ }
     ensures { λ r. ⌜ Turned (now (fates .entry)) worlds (now (list .entry)) (now (words .entry)) count from kind
-      r (now (list .exit)) (now (words .exit)) ⌝ }
+        r (now (list .exit)) (now (words .exit)) ⌝ }
 {
     let parent = unpack(list[from]);
     let fate = read_fate(fates, worlds, parent.pair, kind);
@@ -96,22 +111,38 @@ fn one_turn(fates: &[u16], worlds: u8, list: &mut [u32], words: &mut [u64], coun
         Fate::Succeeds => Turn::Holds(count),
         Fate::Fails(failure) => Turn::Fails(failure),
         Fate::Arrives(pair) => {
-            let placed = Placed { pair: pair, parent: from, kind: kind };
+            let placed = Placed {
+                pair: pair,
+                parent: from,
+                kind: kind,
+            };
             visit(fates, worlds, list, words, count, placed)
         }
     }
 }
 
 // The world state s is taken, if it is marked as a start: its pair is that of the first program state.
-fn place_start(fates: &[u16], file: &[u8], job: Job, list: &mut [u32], words: &mut [u64], count: usize, s: u8) -> Turn
+fn place_start(
+    fates: &[u16],
+    file: &[u8],
+    job: Job,
+    list: &mut [u32],
+    words: &mut [u64],
+    count: usize,
+    s: u8,
+) -> Turn
     requires { ⌜ Opened (now file) job × Ready (tablesOf (now file)) (now fates) (job .worlds)
-      × Starting (tablesOf (now file)) (now list) (now words) count s × (s < job .worlds) ⌝ }
+        × Starting (tablesOf (now file)) (now list) (now words) count s × (s < job .worlds) ⌝ }
     ensures { λ r. ⌜ AfterStart (tablesOf (now (file .entry))) s r (now (list .exit)) (now (words .exit)) ⌝ }
 {
     let start = WorldState(s);
     if is_start(file, job, start) {
         let pair = job.first.row(job.worlds as u16) + start.row(1);
-        let placed = Placed { pair: pair, parent: s as usize, kind: 0 };
+        let placed = Placed {
+            pair: pair,
+            parent: s as usize,
+            kind: 0,
+        };
         return visit(fates, job.worlds, list, words, count, placed);
     }
     Turn::Holds(count)
@@ -120,7 +151,7 @@ fn place_start(fates: &[u16], file: &[u8], job: Job, list: &mut [u32], words: &m
 // The starts are taken in ascending order.
 fn place_starts(fates: &[u16], file: &[u8], job: Job, list: &mut [u32], words: &mut [u64]) -> Starts
     requires { ⌜ Opened (now file) job × Ready (tablesOf (now file)) (now fates) (job .worlds)
-      × Listed (tablesOf (now file)) (now list) (now words) 0 ⌝ }
+        × Listed (tablesOf (now file)) (now list) (now words) 0 ⌝ }
     ensures { λ r. ⌜ AfterStarts (tablesOf (now (file .entry))) r (now (list .exit)) (now (words .exit)) ⌝ }
 {
     let mut count = 0;
@@ -173,9 +204,16 @@ fn search_pairs(fates: &[u16], file: &[u8], job: Job, list: &mut [u32], words: &
 
 // The search of the check: the number of pairs reached, where no line fails; else the first failure, whose line is written at the
 // front of the line buffer.
-pub fn search(fates: &[u16], file: &[u8], job: Job, line: &mut [u8], list: &mut [u32], words: &mut [u64]) -> Found
+pub fn search(
+    fates: &[u16],
+    file: &[u8],
+    job: Job,
+    line: &mut [u8],
+    list: &mut [u32],
+    words: &mut [u64],
+) -> Found
     requires { ⌜ CanSearch (now file) job (now fates) (now list) (now words)
-      × (job .states * job .worlds + 1 ≤ length (now line)) ⌝ }
+        × (job .states * job .worlds + 1 ≤ length (now line)) ⌝ }
     ensures { λ r. ⌜ Finds (tablesOf (now (file .entry))) r (now (line .entry)) (now (line .exit)) ⌝ }
 {
     let halted = search_pairs(fates, file, job, list, words);

@@ -28,7 +28,7 @@ pub fn lamps_before(list: &[u32], from: usize) -> usize
 // Writes these lamps and one of the kind behind them at the front of the buffer, the last first; answers the start.
 pub fn write_line(list: &[u32], line: &mut [u8], from: usize, kind: u8, lamps: usize) -> WorldState
     requires { ⌜ Chained (now list) × (from < length (now list)) × (length (now list) ≤ 4160) × (lamps < length (now line))
-      × (lamps ≡ length (path (entries (now list)) from)) × (start (entries (now list)) from < 256) ⌝ }
+        × (lamps ≡ length (path (entries (now list)) from)) × (start (entries (now list)) from < 256) ⌝ }
     ensures { λ r. ⌜ Written (now (list .entry)) from kind lamps (now (line .entry)) r (now (line .exit)) ⌝ }
 {
     let mut at = lamps;

@@ -2,9 +2,10 @@
 use borrow.Author.Needs.{needs}
 use mathlib.Core.Path.{sym, ap, _∙_}
 use Rattle.lamp_line.specs.declared.ProgramState.{ProgramState}
+use Rattle.job_file.proofs.Opening.{reading-refused}
 use Rattle.job_tables.proofs.Ranges.{first-is}
 use Rattle.cabinet.specs.declared.BeginAnswer.the-variants.{Begun}
-use Rattle.cabinet.proofs.CabinetRules.{reading-refused, begin-file-refused, begin-opened}
+use Rattle.cabinet.proofs.CabinetRules.{begin-file-refused, begin-opened}
 use Rattle.cabinet.proofs.begin.Statement.{statement}
 use Rattle.cabinet.proofs.begin.Tie as tie
 

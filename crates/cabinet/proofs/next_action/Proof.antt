@@ -3,7 +3,8 @@ use borrow.Author.Needs.{needs}
 use mathlib.Core.Path.{sym, _∙_}
 use native.Mathlib.Omega.{arith}
 use Rattle.job_file.specs.Reading.{Opened}
-use Rattle.cabinet.proofs.CabinetRules.{reading-refused, action-file-refused}
+use Rattle.job_file.proofs.Opening.{reading-refused}
+use Rattle.cabinet.proofs.CabinetRules.{action-file-refused}
 use Rattle.cabinet.proofs.CabinetSteps.{action-above, action-ended, action-acts}
 use Rattle.cabinet.proofs.next_action.Statement.{statement}
 use Rattle.cabinet.proofs.next_action.Tie as tie

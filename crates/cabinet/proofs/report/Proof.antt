@@ -7,7 +7,8 @@ use borrow.Author.Tests.{not-true, not-false}
 use Rattle.job_file.specs.Reading.{Opened}
 use Rattle.job_tables.specs.Entries.{targetOf}
 use Rattle.job_tables.proofs.Ranges.{action-below}
-use Rattle.cabinet.proofs.CabinetRules.{reading-refused, report-file-refused}
+use Rattle.job_file.proofs.Opening.{reading-refused}
+use Rattle.cabinet.proofs.CabinetRules.{report-file-refused}
 use Rattle.cabinet.proofs.CabinetSteps.{report-above, report-ended, report-no-branch, report-stays, report-no-lamp, report-passes}
 use Rattle.cabinet.proofs.report.Statement.{statement}
 use Rattle.cabinet.proofs.report.Tie as tie

@@ -1,0 +1,2 @@
+pub mod PrintedRight
+pub mod Writing

@@ -1,0 +1,99 @@
+-- The pieces of the line, one behind the other; each number takes at most eleven bytes.
+use borrow.Author.Needs.{needs}
+use mathlib.Core.Path.{refl, _∙_}
+use mathlib.Core.List.{_∷_}
+use native.Mathlib.Omega.{arith}
+use lib.ListN.{length}
+use Rattle.lamp_line.specs.Endings.{kindNumber}
+use Rattle.answer_line.proofs.Writing.{wrote-number, wrote-then}
+use Rattle.answer_line.proofs.failure_line.Statement.{statement}
+use Rattle.answer_line.proofs.failure_line.Tie as tie
+
+slice-aggregate-put-word : tie.Need-slice-aggregate-put-word
+slice-aggregate-put-word c = search needs
+
+put-word-requires : tie.Need-put-word-requires
+put-word-requires c κs = search needs
+
+failure-number-requires : tie.Need-failure-number-requires
+failure-number-requires c κs = search needs
+
+wide-requires : tie.Need-wide-requires
+wide-requires c κs = search needs
+
+put-number-requires : tie.Need-put-number-requires
+put-number-requires c κs = search needs
+
+wide-requires-2 : tie.Need-wide-requires-2
+wide-requires-2 c κs = search needs
+
+put-number-requires-2 : tie.Need-put-number-requires-2
+put-number-requires-2 c κs =
+    let k = c .before .before .before .before in
+    let w = k .before .before .before .before .before .before in
+    omega (arith, k .put-number .ensures .1, w .put-word .ensures .place, w .put-word .kept .0, k .put-number .kept .0)
+
+cast-put-number : tie.Need-cast-put-number
+cast-put-number c = search needs
+
+put-number-requires-3 : tie.Need-put-number-requires-3
+put-number-requires-3 c κs =
+    let s = c .before .before .before in
+    let k = s .before .before .before .before .before in
+    let w = k .before .before .before .before .before .before in
+    omega (arith, k .put-number .ensures .1, s .put-number2 .ensures .1, w .put-word .ensures .place, w .put-word .kept .0, k .put-number .kept .0, s .put-number2 .kept .0)
+
+put-bytes-requires : tie.Need-put-bytes-requires
+put-bytes-requires c κs =
+    let n = c .before .before .before in
+    let s = n .before .before .before .before in
+    let k = s .before .before .before .before .before in
+    let w = k .before .before .before .before .before .before in
+    omega (arith, k .put-number .ensures .1, s .put-number2 .ensures .1, n .put-number3 .ensures .1, w .put-word .ensures .place, w .put-word .kept .0, k .put-number .kept .0, s .put-number2 .kept .0, n .put-number3 .kept .0)
+
+put-byte-requires : tie.Need-put-byte-requires
+put-byte-requires c κs =
+    let b = c .before .before .before in
+    let n = b .before .before .before .before in
+    let s = n .before .before .before .before in
+    let k = s .before .before .before .before .before in
+    let w = k .before .before .before .before .before .before in
+    omega (arith, k .put-number .ensures .1, s .put-number2 .ensures .1, n .put-number3 .ensures .1, b .put-bytes .ensures .1, w .put-word .ensures .place, w .put-word .kept .0, k .put-number .kept .0, s .put-number2 .kept .0, n .put-number3 .kept .0, b .put-bytes .kept .0)
+
+same-length : tie.Need-same-length
+same-length c = search needs
+
+returns : tie.Need-returns
+returns c =
+    let e = c .before .before in
+    let b = e .before .before .before .before in
+    let n = b .before .before .before .before in
+    let s = n .before .before .before .before in
+    let k = s .before .before .before .before .before in
+    let w = k .before .before .before .before .before .before in
+    let a = w .before .before .before .before .before .args in
+    let kinds = a .kinds .now in
+    let count = wrote-number (length kinds) _ kinds refl (n .put-number3 .ensures .0) (b .put-bytes .ensures .0) in
+    let start = wrote-number (a .start .0) _ (length kinds ∷ kinds) (s .before .wide2 .ensures) (s .put-number2 .ensures .0) count in
+    let kind =
+    wrote-number (kindNumber (a .kind)) _ (a .start .0 ∷ length kinds ∷ kinds)
+    (k .before .wide .ensures ∙ k .before .before .failure-number .ensures) (k .put-number .ensures .0) start in
+    wrote-then (w .put-word .ensures) (wrote-then kind (e .put-byte .ensures))
+
+pub failure-line-spec : {M : Type 1} → statement M
+failure-line-spec =
+    tie.close
+    (tie.spec
+    slice-aggregate-put-word
+    put-word-requires
+    failure-number-requires
+    wide-requires
+    put-number-requires
+    wide-requires-2
+    put-number-requires-2
+    cast-put-number
+    put-number-requires-3
+    put-bytes-requires
+    put-byte-requires
+    same-length
+    returns)

@@ -1,0 +1,52 @@
+-- Each case is the definition's.
+use borrow.Author.Needs.{needs}
+use mathlib.Core.Path.{sym, ap, _∙_}
+use Rattle.nessflurry_c.specs.AnswerWords.{walkWord}
+use Rattle.nessflurry_c.proofs.words.walk_word.Statement.{statement}
+use Rattle.nessflurry_c.proofs.words.walk_word.Tie as tie
+
+enum-known-answer : tie.Need-enum-known-answer
+enum-known-answer c = search needs
+
+ending-code-requires : tie.Need-ending-code-requires
+ending-code-requires c κs = search needs
+
+word-of-requires : tie.Need-word-of-requires
+word-of-requires c κs = search needs
+
+enum-known-answer-2 : tie.Need-enum-known-answer-2
+enum-known-answer-2 c = search needs
+
+word-of-requires-2 : tie.Need-word-of-requires-2
+word-of-requires-2 c κs = search needs
+
+enum-known-answer-3 : tie.Need-enum-known-answer-3
+enum-known-answer-3 c = search needs
+
+refused-word-requires : tie.Need-refused-word-requires
+refused-word-requires c κs = search needs
+
+returns : tie.Need-returns
+returns c =
+    rw (c .word-of .ensures, c .before .ending-code .ensures) (ap walkWord (sym (c .before .before .before .answer .given .1)))
+
+returns-2 : tie.Need-returns-2
+returns-2 c = c .word-of2 .ensures ∙ ap walkWord (sym (c .before .before .answer2 .given .1))
+
+returns-3 : tie.Need-returns-3
+returns-3 c = c .refused-word .ensures ∙ ap walkWord (sym (c .before .before .answer3 .given .1))
+
+pub walk-word-spec : {M : Type 1} → statement M
+walk-word-spec =
+    tie.close
+    (tie.spec
+    enum-known-answer
+    ending-code-requires
+    word-of-requires
+    enum-known-answer-2
+    word-of-requires-2
+    enum-known-answer-3
+    refused-word-requires
+    returns
+    returns-2
+    returns-3)
