@@ -73,10 +73,17 @@ pub fn start_wrong(file: &[u8], job: Job) -> bool
     any_not_bit(file, from, count) | !any_set(file, from, count)
 }
 
+// A cell that is legal and in range, as most are, is told by the first two tests.
 fn is_cell_wrong(worlds: u8, results: u8, next: u8, result: u8) -> bool
     ensures { λ r. ⌜ r ≡ cellWrongIn worlds results next result ⌝ }
 {
-    (worlds <= next) | (results <= result) & (result != 255) | (result == 255) & (next != 0)
+    if worlds <= next {
+        return true;
+    }
+    if result < results {
+        return false;
+    }
+    (result != 255) | (next != 0)
 }
 
 // One of the `count` cells from `from` on is out of range.

@@ -4,8 +4,7 @@ use mathlib.Core.Path.{_≡_, sym, ap, _∙_}
 use Prim.Native.Nat.{_≤_, _<_}
 use native.Mathlib.Omega.{arith}
 use borrow.Author.Tests.{le-leb, lt-leb, lt-ltb, le-ltb}
-use Rattle.job_file.specs.declared.Reading.the-variants as reading
-use Rattle.job_file.specs.Reading.{refusalOf}
+use Rattle.job_file.proofs.Opening.{reading-refused}
 use Rattle.lamp_walk.specs.WalkAnswers.{answerOf}
 use Rattle.lamp_walk.proofs.WalkRules.{walk-file-refused, walk-by-rules}
 use Rattle.lamp_walk.proofs.walk_lamp.Statement.{statement}
@@ -29,7 +28,7 @@ returns c =
     let r = t .before .before in
     let a = r .before .before .args in
     walk-file-refused (a .file .now) (a .state) (a .world) (a .column) (c .refusal-number .result)
-    (sym (r .read-job .ensures) ∙ (t .enum-told .given .1 ∙ ap reading.Refused (sym (c .refusal-number .ensures ∙ ap refusalOf (t .enum-told .given .1)))))
+    (reading-refused _ _ _ _ (r .read-job .ensures) (t .enum-told .given .1) (c .refusal-number .ensures))
 
 returns-2 : tie.Need-returns-2
 returns-2 c =

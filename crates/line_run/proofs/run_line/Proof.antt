@@ -1,9 +1,8 @@
 -- The reader's refusal is handed on; then each test is the next rule's.
 use borrow.Author.Needs.{needs}
-use mathlib.Core.Path.{_≡_, sym, ap, _∙_}
+use mathlib.Core.Path.{_≡_, sym, _∙_}
 use borrow.Author.Tests.{not-true, not-false}
-use Rattle.job_file.specs.declared.Reading.the-variants as reading
-use Rattle.job_file.specs.Reading.{refusalOf}
+use Rattle.job_file.proofs.Opening.{reading-refused}
 use Rattle.line_run.proofs.RunLoop.{line-right}
 use Rattle.line_run.proofs.RunRules.{run-file-refused, run-by-rules}
 use Rattle.line_run.proofs.run_line.Statement.{statement}
@@ -27,7 +26,7 @@ returns c =
     let r = t .before .before in
     let a = r .before .before .before .args in
     run-file-refused (a .file .now) (a .start) (a .line .now) (a .limit) (c .refusal-number .result)
-    (sym (r .read-job .ensures) ∙ (t .enum-told .given .1 ∙ ap reading.Refused (sym (c .refusal-number .ensures ∙ ap refusalOf (t .enum-told .given .1)))))
+    (reading-refused _ _ _ _ (r .read-job .ensures) (t .enum-told .given .1) (c .refusal-number .ensures))
 
 is-start-requires : tie.Need-is-start-requires
 is-start-requires c κs = let g = c .before in sym (g .before .before .read-job .ensures) ∙ g .reading .given .1

@@ -1,10 +1,9 @@
 -- The reader's refusal is handed on; then each test is the next rule's, and what the search finds is the answer.
 use borrow.Author.Needs.{needs}
 use native.Mathlib.Omega.{arith}
-use mathlib.Core.Path.{_≡_, sym, ap, subst, _∙_}
+use mathlib.Core.Path.{_≡_, sym, subst, _∙_}
 use lib.ListN.{length}
-use Rattle.job_file.specs.declared.Reading.the-variants as reading
-use Rattle.job_file.specs.Reading.{refusalOf}
+use Rattle.job_file.proofs.Opening.{reading-refused}
 use Rattle.lamp_walk.proofs.WalkLoop.{few-steps}
 use Rattle.job_file.proofs.WellFormed.{sound}
 use Rattle.plan_check.proofs.CheckRules.{file-refused-checked, buffer-refused, list-refused, found-checked, has-room}
@@ -29,7 +28,7 @@ returns c =
     let r = t .before .before in
     let a = r .before .before .before .before .before .args in
     file-refused-checked (a .file .now) (a .line .now) (a .list .now) (a .words .now) (c .refusal-number .result)
-    (sym (r .read-job .ensures) ∙ (t .enum-told .given .1 ∙ ap reading.Refused (sym (c .refusal-number .ensures ∙ ap refusalOf (t .enum-told .given .1)))))
+    (reading-refused _ _ _ _ (r .read-job .ensures) (t .enum-told .given .1) (c .refusal-number .ensures))
 
 cast-live : tie.Need-cast-live
 cast-live c = search needs

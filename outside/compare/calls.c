@@ -1,0 +1,176 @@
+#include "calls.h"
+
+#include "lent.h"
+#include "sides.h"
+#include "tally.h"
+
+enum { MOST_LAMPS = 65536 }; /* one more than a run takes */
+
+static struct {
+    struct lent file, head, line, list, words;
+} lent[SIDES];
+
+/* The file as it is lent to each side, and its size. */
+static const uint8_t *bytes[SIDES];
+static size_t size;
+static bool at_end; /* where the next things are lent: it changes from file to file */
+
+void open_rooms(void)
+{
+    for (int i = 0; i < SIDES; i++) {
+        open_room(&lent[i].file, MOST_BYTES + 1);
+        open_room(&lent[i].head, 16 * sizeof(uint16_t));
+        open_room(&lent[i].line, MOST_LAMPS);
+        open_room(&lent[i].list, (LIST_NUMBERS + ROOM_BEYOND) * sizeof(uint32_t));
+        open_room(&lent[i].words, (WORDS + ROOM_BEYOND) * sizeof(uint64_t));
+    }
+}
+
+void take_file(const struct file *file, struct random *random)
+{
+    place.file = file;
+    size = file->size;
+    at_end = one_in(random, 2);
+    for (int i = 0; i < SIDES; i++)
+        bytes[i] = lend(&lent[i].file, file->bytes, size, at_end);
+}
+
+static void place_call(enum operation operation, uint64_t first, uint64_t second, uint64_t third)
+{
+    place.operation = operation;
+    place.arguments[0] = first;
+    place.arguments[1] = second;
+    place.arguments[2] = third;
+}
+
+/* What holds for every operation: equal answers, one that the operation has, and the file as it was. */
+static uint64_t settle(const uint64_t answers[SIDES])
+{
+    count_answer(place.operation, answers[NESSFLURRY]);
+    demand_equal(answers[NESSFLURRY], answers[PLAIN]);
+    for (int i = 0; i < SIDES; i++)
+        demand(memcmp(bytes[i], place.file->bytes, size) == 0 && guard_holds(&lent[i].file), "the file as it was");
+    return answers[NESSFLURRY];
+}
+
+uint64_t compare_read(struct random *random)
+{
+    uint16_t before[16], *heads[SIDES];
+    uint64_t answers[SIDES];
+    random_bytes(random, before, sizeof before);
+    place_call(READ, 0, 0, 0);
+    for (int i = 0; i < SIDES; i++) {
+        heads[i] = lend(&lent[i].head, before, sizeof before, at_end);
+        answers[i] = sides[i].read(bytes[i], size, heads[i]);
+    }
+    settle(answers);
+    for (int i = 0; i < SIDES; i++) {
+        bool refused = nessflurry_refusal(answers[i]) != 0;
+        demand(guard_holds(&lent[i].head), "nothing written beside the head");
+        demand(!refused || memcmp(heads[i], before, sizeof before) == 0, "the head as it was, if refused");
+    }
+    demand(memcmp(heads[NESSFLURRY], heads[PLAIN], sizeof before) == 0, "equal heads");
+    return answers[NESSFLURRY];
+}
+
+uint64_t compare_walk(uint8_t state, uint8_t world, uint8_t column)
+{
+    uint64_t answers[SIDES];
+    place_call(WALK, state, world, column);
+    for (int i = 0; i < SIDES; i++)
+        answers[i] = sides[i].walk(bytes[i], size, state, world, column);
+    return settle(answers);
+}
+
+uint64_t compare_run(uint8_t start, const uint8_t *line, size_t lamps, uint32_t limit)
+{
+    uint64_t answers[SIDES];
+    place_call(RUN, start, lamps, limit);
+    for (int i = 0; i < SIDES; i++) {
+        const uint8_t *lamp_kinds = lend(&lent[i].line, line, lamps, at_end);
+        answers[i] = sides[i].run(bytes[i], size, start, lamp_kinds, lamps, limit);
+        demand(memcmp(lamp_kinds, line, lamps) == 0 && guard_holds(&lent[i].line), "the line as it was");
+    }
+    return settle(answers);
+}
+
+uint64_t compare_begin(uint16_t lamps)
+{
+    uint64_t answers[SIDES];
+    place_call(BEGIN, lamps, 0, 0);
+    for (int i = 0; i < SIDES; i++)
+        answers[i] = sides[i].begin(bytes[i], size, lamps);
+    return settle(answers);
+}
+
+uint64_t compare_action(uint8_t state, uint16_t lamps)
+{
+    uint64_t answers[SIDES];
+    place_call(ACTION, state, lamps, 0);
+    for (int i = 0; i < SIDES; i++)
+        answers[i] = sides[i].action(bytes[i], size, state, lamps);
+    return settle(answers);
+}
+
+uint64_t compare_report(uint8_t state, uint16_t lamps, uint8_t result)
+{
+    uint64_t answers[SIDES];
+    place_call(REPORT, state, lamps, result);
+    for (int i = 0; i < SIDES; i++)
+        answers[i] = sides[i].report(bytes[i], size, state, lamps, result);
+    return settle(answers);
+}
+
+static struct {
+    uint8_t line[LINE_BYTES + ROOM_BEYOND];
+    uint32_t list[LIST_NUMBERS + ROOM_BEYOND];
+    uint64_t words[WORDS + ROOM_BEYOND];
+} before;
+
+static uint64_t lend_and_check(int i, struct sizes sizes)
+{
+    uint8_t *line = lend(&lent[i].line, before.line, sizes.line, at_end);
+    uint32_t *list = lend(&lent[i].list, before.list, sizes.list * sizeof *list, at_end);
+    uint64_t *words = lend(&lent[i].words, before.words, sizes.words * sizeof *words, at_end);
+    return sides[i].check(bytes[i], size, line, sizes.line, list, sizes.list, words, sizes.words);
+}
+
+/* The lamps of the failing line, as far as the lent buffer goes. */
+static size_t written(uint64_t answer, size_t room)
+{
+    size_t lamps = nessflurry_code(answer) == NESSFLURRY_GOAL ? 0 : nessflurry_count(answer);
+    demand(lamps <= room, "a failing line that the buffer holds");
+    return lamps <= room ? lamps : room;
+}
+
+/* List and words are free after a check that is not refused. */
+static void judge_buffers(int i, struct sizes sizes, uint64_t answer)
+{
+    size_t lamps = written(answer, sizes.line);
+    const uint8_t *line = lent[i].line.at;
+    demand(memcmp(line + lamps, before.line + lamps, sizes.line - lamps) == 0, "the line buffer as it was, behind the line");
+    demand(guard_holds(&lent[i].line) && guard_holds(&lent[i].list) && guard_holds(&lent[i].words),
+           "nothing written beside the buffers of a check");
+    if (nessflurry_refusal(answer) == 0)
+        return;
+    demand(memcmp(lent[i].list.at, before.list, sizes.list * sizeof *before.list) == 0, "the list as it was, if refused");
+    demand(memcmp(lent[i].words.at, before.words, sizes.words * sizeof *before.words) == 0, "the words as they were, if refused");
+}
+
+uint64_t compare_check(struct sizes sizes, uint8_t *failing, struct random *random)
+{
+    uint64_t answers[SIDES];
+    random_bytes(random, before.line, sizes.line);
+    random_bytes(random, before.list, sizes.list * sizeof *before.list);
+    random_bytes(random, before.words, sizes.words * sizeof *before.words);
+    place_call(CHECK, sizes.line, sizes.list, sizes.words);
+    for (int i = 0; i < SIDES; i++)
+        answers[i] = lend_and_check(i, sizes);
+    settle(answers);
+    for (int i = 0; i < SIDES; i++)
+        judge_buffers(i, sizes, answers[i]);
+    size_t lamps = written(answers[NESSFLURRY], sizes.line < LINE_BYTES ? sizes.line : LINE_BYTES);
+    demand(memcmp(lent[NESSFLURRY].line.at, lent[PLAIN].line.at, lamps) == 0, "equal failing lines");
+    memcpy(failing, lent[NESSFLURRY].line.at, lamps);
+    return answers[NESSFLURRY];
+}

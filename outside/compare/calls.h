@@ -1,0 +1,32 @@
+/*
+ * Calls of each operation on both sides with the same things lent to each. A call is compared in its answer and in every lent
+ * byte, and counted; what it gives back is the product's answer.
+ */
+#ifndef OUTSIDE_CALLS_H
+#define OUTSIDE_CALLS_H
+
+#include "job_files/job_files.h"
+
+/* Room for what is lent: before the first call. */
+void open_rooms(void);
+
+/* The file that all later calls are handed. */
+void take_file(const struct file *file, struct random *random);
+
+uint64_t compare_read(struct random *random);
+uint64_t compare_walk(uint8_t state, uint8_t world, uint8_t column);
+uint64_t compare_run(uint8_t start, const uint8_t *line, size_t lamps, uint32_t limit);
+uint64_t compare_begin(uint16_t lamps);
+uint64_t compare_action(uint8_t state, uint16_t lamps);
+uint64_t compare_report(uint8_t state, uint16_t lamps, uint8_t result);
+
+/* Sizes of the buffers that a check is lent, in elements; each at most ROOM_BEYOND more than is enough for every job. */
+enum { ROOM_BEYOND = 100 };
+struct sizes {
+    size_t line, list, words;
+};
+
+/* The check, with random content in the buffers before. Where it fails, the line is written to `failing`, of LINE_BYTES. */
+uint64_t compare_check(struct sizes sizes, uint8_t *failing, struct random *random);
+
+#endif

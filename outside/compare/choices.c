@@ -1,0 +1,85 @@
+#include "choices.h"
+
+uint8_t about(struct random *random, uint32_t count)
+{
+    switch (below(random, 12)) {
+    case 0: return (uint8_t)count;
+    case 1: return (uint8_t)random_word(random);
+    default: return (uint8_t)below(random, count);
+    }
+}
+
+uint8_t marked_start(const struct job *job, struct random *random)
+{
+    uint8_t world = (uint8_t)below(random, job->worlds);
+    while (!job->starts[world])
+        world = (uint8_t)((world + 1) % job->worlds);
+    return world;
+}
+
+uint8_t any_start(const struct job *job, struct random *random)
+{
+    return one_in(random, 8) ? about(random, job->worlds) : marked_start(job, random);
+}
+
+void choose_kinds(const struct job *job, struct random *random, uint8_t *line, size_t lamps)
+{
+    uint8_t kind = (uint8_t)(1 + below(random, job->kinds));
+    bool mixed = !one_in(random, 4);
+    for (size_t i = 0; i < lamps; i++)
+        line[i] = mixed ? (uint8_t)(1 + below(random, job->kinds)) : kind;
+}
+
+static size_t choose_lamps(struct random *random)
+{
+    switch (below(random, 100)) {
+    case 0: return below(random, MOST_LAMPS + 1);
+    case 1: return MOST_LAMPS + below(random, 2);
+    default: return below(random, 21);
+    }
+}
+
+static uint8_t no_kind(const struct job *job, struct random *random)
+{
+    switch (below(random, 3)) {
+    case 0: return 0;
+    case 1: return job->kinds + 1;
+    default: return (uint8_t)(job->kinds + 1 + below(random, 255u - job->kinds));
+    }
+}
+
+size_t choose_line(const struct job *job, struct random *random, uint8_t line[MOST_LAMPS + 1])
+{
+    size_t lamps = choose_lamps(random);
+    choose_kinds(job, random, line, lamps);
+    if (lamps > 0 && one_in(random, 12)) {
+        uint8_t *lamp = &line[below(random, (uint32_t)lamps)];
+        *lamp = no_kind(job, random);
+    }
+    return lamps;
+}
+
+struct sizes enough(const struct job *job)
+{
+    size_t pairs = (job->states + 1u) * job->worlds;
+    return (struct sizes){(size_t)job->states * job->worlds + 1, pairs, (pairs + 63) / 64};
+}
+
+struct sizes enough_or_more(const struct job *job, struct random *random)
+{
+    struct sizes sizes = enough(job);
+    uint32_t beyond = one_in(random, 2) ? 1 : ROOM_BEYOND;
+    sizes.line += below(random, beyond);
+    sizes.list += below(random, beyond);
+    sizes.words += below(random, beyond);
+    return sizes;
+}
+
+size_t too_few(size_t needed, struct random *random)
+{
+    switch (below(random, 3)) {
+    case 0: return needed - 1;
+    case 1: return 0;
+    default: return below(random, (uint32_t)needed);
+    }
+}

@@ -1,0 +1,164 @@
+#include "tally.h"
+
+#include "nessflurry.h"
+
+#include <inttypes.h>
+#include <stdio.h>
+#include <stdlib.h>
+
+enum { REFUSALS = 20, CODES = 8 };
+
+/* The numbers from one to another, as bits. */
+#define NUMBERS(from, to) ((2u << (to)) - (1u << (from)))
+
+static const struct {
+    const char *name, *arguments[3];
+    const char *codes[CODES]; /* the names of the codes that it has */
+    uint32_t refusals;        /* the refusals that it has, as bits */
+} known[OPERATIONS] = {
+    [READ] = {"reader", {0}, {"read"}, NUMBERS(1, 11)},
+    [WALK] = {"walk",
+              {"state", "world", "column"},
+              {"goal", "failure 1", "failure 2", "failure 3", "failure 4", NULL, "arrived"},
+              NUMBERS(1, 11) | NUMBERS(14, 16)},
+    [RUN] = {"run",
+             {"start", "lamps", "limit"},
+             {"goal", "failure 1", "failure 2", "failure 3", "failure 4", "stopped"},
+             NUMBERS(1, 11) | NUMBERS(14, 15)},
+    [CHECK] = {"check",
+               {"line bytes", "list numbers", "words"},
+               {"accepted", "failed 1", "failed 2", "failed 3", "failed 4"},
+               NUMBERS(1, 13)},
+    [BEGIN] = {"begin", {"lamps"}, {"begun"}, NUMBERS(1, 11)},
+    [ACTION] = {"action",
+                {"state", "lamps"},
+                {[NESSFLURRY_GOAL] = "action", [NESSFLURRY_ENDED] = "ended"},
+                NUMBERS(1, 11) | NUMBERS(16, 16)},
+    [REPORT] = {"report", {"state", "lamps", "result"}, {"taken"}, NUMBERS(1, 11) | NUMBERS(16, 19)},
+};
+
+struct place place;
+
+static struct {
+    uint64_t calls, answered[CODES], refused[REFUSALS];
+} counts[OPERATIONS];
+
+static uint64_t compared, differing;
+static uint32_t most_pairs, longest_failing_line;
+
+/* The job of the first difference, in a form that the product's program and example read. */
+static void keep_job(void)
+{
+    const char *folder = getenv("TMPDIR");
+    char name[4096];
+    snprintf(name, sizeof name, "%s/nessflurry_difference.job", folder ? folder : "/tmp");
+    FILE *kept = fopen(name, "wb");
+    if (kept == NULL || fwrite(place.file->bytes, 1, place.file->size, kept) != place.file->size)
+        printf("  its job could not be written to %s\n", name);
+    else
+        printf("  its job of %zu bytes is in %s\n", place.file->size, name);
+    if (kept != NULL)
+        fclose(kept);
+}
+
+static void tell_place(void)
+{
+    printf("first difference: job %" PRIu32 " (seen again by `compare only %" PRIu32 "`), %s", place.number, place.number,
+           known[place.operation].name);
+    for (int i = 0; i < 3 && known[place.operation].arguments[i] != NULL; i++)
+        printf(" %s %" PRIu64, known[place.operation].arguments[i], place.arguments[i]);
+    printf("\n");
+}
+
+void demand(bool holds, const char *demanded)
+{
+    if (holds || differing++ > 0) /* one is told, all are counted */
+        return;
+    tell_place();
+    printf("  demanded, and not so: %s\n", demanded);
+    keep_job();
+    fflush(stdout);
+}
+
+void demand_equal(uint64_t nessflurry, uint64_t plain)
+{
+    char demanded[80];
+    if (nessflurry == plain)
+        return;
+    snprintf(demanded, sizeof demanded, "equal answers (nessflurry %016" PRIx64 ", plain %016" PRIx64 ")", nessflurry, plain);
+    demand(false, demanded);
+}
+
+static void note_extremes(uint64_t answer)
+{
+    uint32_t *most = nessflurry_code(answer) == NESSFLURRY_GOAL ? &most_pairs : &longest_failing_line;
+    if (nessflurry_count(answer) > *most)
+        *most = nessflurry_count(answer);
+}
+
+void count_answer(enum operation operation, uint64_t answer)
+{
+    uint8_t refusal = nessflurry_refusal(answer), code = nessflurry_code(answer);
+    compared++;
+    counts[operation].calls++;
+    if (refusal != 0) {
+        bool has = refusal < REFUSALS && known[operation].refusals >> refusal & 1;
+        demand(has, "a refusal that the operation has");
+        demand(operation == REPORT || answer >> 8 == 0, "nothing beside the refusal");
+        counts[operation].refused[has ? refusal : 0]++;
+        return;
+    }
+    bool has = code < CODES && known[operation].codes[code] != NULL;
+    demand(has, "a code that the operation has");
+    counts[operation].answered[has ? code : 0]++;
+    if (operation == CHECK)
+        note_extremes(answer);
+}
+
+static void print_operation(enum operation operation)
+{
+    printf("%-7s%9" PRIu64 " calls:", known[operation].name, counts[operation].calls);
+    for (int code = 0; code < CODES; code++)
+        if (known[operation].codes[code] != NULL)
+            printf(" %s %" PRIu64 ",", known[operation].codes[code], counts[operation].answered[code]);
+    printf(" refused");
+    for (int refusal = 1; refusal < REFUSALS; refusal++)
+        if (known[operation].refusals >> refusal & 1)
+            printf(" %d:%" PRIu64, refusal, counts[operation].refused[refusal]);
+    printf("\n");
+}
+
+void print_tally(void)
+{
+    for (enum operation operation = READ; operation < OPERATIONS; operation++)
+        print_operation(operation);
+    printf("most pairs reached %" PRIu32 ", longest failing line %" PRIu32 " lamps\n", most_pairs, longest_failing_line);
+}
+
+static bool seen(enum operation operation)
+{
+    bool all = true;
+    for (int code = 0; code < CODES; code++)
+        if (known[operation].codes[code] != NULL && counts[operation].answered[code] == 0) {
+            printf("never seen: %s answering %s\n", known[operation].name, known[operation].codes[code]);
+            all = false;
+        }
+    for (int refusal = 1; refusal < REFUSALS; refusal++)
+        if (known[operation].refusals >> refusal & 1 && counts[operation].refused[refusal] == 0) {
+            printf("never seen: %s refusing with %d\n", known[operation].name, refusal);
+            all = false;
+        }
+    return all;
+}
+
+bool all_seen(void)
+{
+    bool all = true;
+    for (enum operation operation = READ; operation < OPERATIONS; operation++)
+        all = seen(operation) && all;
+    return all;
+}
+
+uint64_t differences(void) { return differing; }
+
+void print_comparisons(void) { printf("%" PRIu64 " comparisons, %" PRIu64 " differences\n", compared, differing); }

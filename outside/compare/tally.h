@@ -1,0 +1,37 @@
+/*
+ * What the outside test has seen: compared calls by operation and answer, and differences.
+ */
+#ifndef OUTSIDE_TALLY_H
+#define OUTSIDE_TALLY_H
+
+#include "job_files/job_files.h"
+
+enum operation { READ, WALK, RUN, CHECK, BEGIN, ACTION, REPORT, OPERATIONS };
+
+/* Where the test is: told with the first difference, so that it can be seen again. */
+struct place {
+    uint32_t number; /* of the job */
+    const struct file *file;
+    enum operation operation;
+    uint64_t arguments[3];
+};
+extern struct place place;
+
+/* Counts one compared call by what it answered, which has to be an answer that the operation has. */
+void count_answer(enum operation operation, uint64_t answer);
+
+/* Counts a difference, and tells of the first: what was demanded, and what the sides answered. */
+void demand(bool holds, const char *demanded);
+void demand_equal(uint64_t nessflurry, uint64_t plain);
+
+void print_tally(void);
+
+/* Whether every answer and every refusal of every operation has been seen; names those that have not. */
+bool all_seen(void);
+
+uint64_t differences(void);
+
+/* The last line: `N comparisons, M differences`. */
+void print_comparisons(void);
+
+#endif

@@ -1,0 +1,59 @@
+/*
+ * The file of each trial.
+ */
+#include "job_files/damage.h"
+#include "trials.h"
+
+static void resize_bench(struct trial *trial, uint32_t which)
+{
+    const size_t largest[] = {MOST_BYTES - 1, MOST_BYTES, MOST_BYTES + 1};
+    resize(&trial->file, which < BENCH_BYTES + 32 ? which : largest[which - BENCH_BYTES - 32], &trial->random);
+}
+
+static void damage_file(struct trial *trial)
+{
+    trial->due = damage(&trial->file, &trial->job, &trial->random);
+    trial->sound = trial->due == 0;
+}
+
+static void scramble_file(struct trial *trial)
+{
+    scramble(&trial->file, &trial->random);
+    if (one_in(&trial->random, 8))
+        resize(&trial->file, below(&trial->random, 41), &trial->random);
+    trial->sound = false;
+}
+
+static void make_random(struct trial *trial)
+{
+    random_job(&trial->job, &trial->random);
+    write_file(&trial->file, &trial->job, &trial->random);
+    if (one_in(&trial->random, 3))
+        damage_file(trial);
+    else if (one_in(&trial->random, 6))
+        scramble_file(trial);
+}
+
+static void make_numbered(struct trial *trial, uint32_t number)
+{
+    if (number >= FIRST_LARGE)
+        large_job(&trial->job, number - FIRST_LARGE);
+    else
+        bench_line(&trial->job, number >= FIRST_BENCH ? number - FIRST_BENCH : BENCH_G);
+    write_file(&trial->file, &trial->job, &trial->random);
+    if (number < FIRST_SIZE)
+        trial->file.bytes[number / 256] = (uint8_t)number;
+    else if (number < FIRST_BENCH)
+        resize_bench(trial, number - FIRST_SIZE);
+}
+
+void make_trial(struct trial *trial, uint32_t number)
+{
+    trial->random.state = (uint64_t)number << 32;
+    trial->due = 0;
+    trial->sound = number >= FIRST_BENCH;
+    if (number >= FIRST_RANDOM)
+        make_random(trial);
+    else
+        make_numbered(trial, number);
+}

@@ -1,0 +1,42 @@
+/*
+ * Trials: a file, and what is tried on it. Each trial is made from its number, and nothing else.
+ */
+#ifndef OUTSIDE_TRIALS_H
+#define OUTSIDE_TRIALS_H
+
+#include "job_files/families.h"
+
+struct trial {
+    struct random random;
+    struct job job; /* what the file was made from */
+    struct file file;
+    bool sound;     /* the file is that of the job, with nothing damaged */
+    unsigned due;   /* the refusal that is due for the file, or 0 where it is sound or not known */
+};
+
+/* Trials are numbered from 0. From FIRST_RANDOM on they are random; those before go through what can be gone through. */
+enum {
+    BENCH_BYTES = 128,                               /* of bench line G's file */
+    FIRST_SIZE = BENCH_BYTES * 256,                  /* before it: that file with each byte at each value */
+    FIRST_BENCH = FIRST_SIZE + BENCH_BYTES + 32 + 3, /* before it: that file at sizes up to 159 and at the largest three */
+    FIRST_LARGE = FIRST_BENCH + BENCH_VARIANTS,
+    FIRST_RANDOM = FIRST_LARGE + LARGE_JOBS
+};
+void make_trial(struct trial *trial, uint32_t number);
+
+/* Every operation on a file, whatever it is. */
+void try_file(struct trial *trial);
+
+/* What holds of a sound file. */
+void try_walks(struct trial *trial);
+void try_run(struct trial *trial);
+void try_short_buffers(struct trial *trial);
+void try_cabinet_calls(struct trial *trial);
+
+/* The check, and what follows from it for runs; answers whether the plan is accepted. */
+bool try_check(struct trial *trial);
+
+/* A cabinet that is led along a line. */
+void lead_cabinet(struct trial *trial, bool accepted);
+
+#endif

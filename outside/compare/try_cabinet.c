@@ -1,0 +1,108 @@
+/*
+ * A cabinet along a line: it is handed the results that the tables give, with action calls and refused reports between them,
+ * and has to take the states of the execution.
+ */
+#include "choices.h"
+#include "sides.h"
+#include "tally.h"
+#include "trials.h"
+
+/* An execution over the tables, at some point: program state, world state and lamps passed. */
+struct execution {
+    const struct job *job;
+    const uint8_t *line;
+    size_t lamps, passed;
+    uint8_t state, world;
+};
+
+static uint8_t column(const struct execution *at) { return at->passed < at->lamps ? at->line[at->passed] : 0; }
+
+static uint16_t lamps_left(const struct execution *at) { return (uint16_t)(at->lamps - at->passed); }
+
+static bool is_at(const struct execution *at, uint64_t cabinet)
+{
+    return nessflurry_state(cabinet) == at->state && nessflurry_count(cabinet) == lamps_left(at);
+}
+
+/* The result of the action that is due, or NONE where there is none: in state S, and where the action is not legal. */
+static uint8_t due_result(const struct execution *at)
+{
+    return at->state == at->job->states ? NONE : at->job->cells[at->job->action[at->state]][at->world][column(at)].result;
+}
+
+/* The step that has this result. */
+static void step(struct execution *at, uint8_t result)
+{
+    uint8_t action = at->job->action[at->state];
+    at->world = at->job->cells[action][at->world][column(at)].next;
+    at->state = at->job->target[at->state][result];
+    at->passed += at->job->marks[action];
+}
+
+/* The refusal that a report of the result meets here, or 0. */
+static uint8_t report_refusal(const struct execution *at, uint8_t result)
+{
+    if (at->state == at->job->states)
+        return 17;
+    if (result >= at->job->results || at->job->target[at->state][result] == NONE)
+        return 18;
+    return at->job->marks[at->job->action[at->state]] && lamps_left(at) == 0 ? 19 : 0;
+}
+
+static void expect_action(const struct execution *at)
+{
+    uint64_t answer = compare_action(at->state, lamps_left(at));
+    bool ended = nessflurry_code(answer) == NESSFLURRY_ENDED;
+    demand(nessflurry_refusal(answer) == 0 && ended == (at->state == at->job->states), "ended in state S, and not before");
+    demand(ended || nessflurry_state(answer) == at->job->action[at->state], "the action of the execution's next step");
+}
+
+static void expect_refused(const struct execution *at, uint8_t result)
+{
+    uint64_t answer = compare_report(at->state, lamps_left(at), result);
+    demand(nessflurry_refusal(answer) == report_refusal(at, result), "the refusal of this report");
+    demand(is_at(at, answer), "the old state, from a refused report");
+}
+
+/* Calls that leave the cabinet as it is. */
+static void disturb(const struct execution *at, struct random *random)
+{
+    uint8_t result = about(random, at->job->results);
+    if (one_in(random, 2))
+        expect_action(at);
+    if (report_refusal(at, result) != 0)
+        expect_refused(at, result);
+}
+
+/* Goes along the line, so many steps at most; answers whether the execution ends within them. */
+static bool lead(struct execution *at, struct random *random, int most_steps)
+{
+    uint64_t cabinet = compare_begin((uint16_t)at->lamps);
+    for (int steps = 0; steps <= most_steps; steps++) {
+        demand(nessflurry_refusal(cabinet) == 0, "no refusal of a result that the tables give");
+        demand(is_at(at, cabinet), "the execution's program state and lamps left");
+        disturb(at, random);
+        uint8_t result = due_result(at);
+        if (result == NONE)
+            return true;
+        if (report_refusal(at, result) != 0) {
+            expect_refused(at, result);
+            return true;
+        }
+        cabinet = compare_report(at->state, lamps_left(at), result);
+        step(at, result);
+    }
+    return false;
+}
+
+void lead_cabinet(struct trial *trial, bool accepted)
+{
+    enum { MOST_STEPS = 60 };
+    static uint8_t line[100];
+    const struct job *job = &trial->job;
+    size_t lamps = below(&trial->random, one_in(&trial->random, 10) ? sizeof line + 1 : 10);
+    struct execution at = {job, line, lamps, 0, job->first, marked_start(job, &trial->random)};
+    choose_kinds(job, &trial->random, line, lamps);
+    if (lead(&at, &trial->random, MOST_STEPS) && accepted)
+        demand(at.state == job->states && job->goal[at.world][column(&at)], "state S with the goal true, after an accepted plan");
+}

@@ -1,0 +1,131 @@
+/*
+ * Runs with several limits, and the check with the runs that follow from it.
+ */
+#include "choices.h"
+#include "sides.h"
+#include "tally.h"
+#include "trials.h"
+
+static uint8_t line[MOST_LAMPS + 1], failing_line[LINE_BYTES];
+
+static bool ends_in(uint64_t answer, uint8_t code) { return nessflurry_refusal(answer) == 0 && nessflurry_code(answer) == code; }
+
+/* A limit that no run of the line reaches, if such a run takes a moment at most; else one that keeps it to a moment. */
+static uint32_t high_limit(const struct job *job, size_t lamps)
+{
+    return (lamps + 1) * job->states * job->worlds <= 1u << 22 ? UINT32_MAX : 1u << 20;
+}
+
+/* The run of a line that has this ending without a limit. */
+static void try_limit(uint8_t start, const uint8_t *kinds, size_t lamps, uint32_t limit, uint64_t ending)
+{
+    uint64_t answer = compare_run(start, kinds, lamps, limit);
+    if (limit >= nessflurry_count(ending))
+        demand(answer == ending, "the same ending within the limit");
+    else
+        demand(ends_in(answer, NESSFLURRY_STOPPED) && nessflurry_count(answer) == limit, "stopped at the limit");
+}
+
+void try_run(struct trial *trial)
+{
+    struct random *random = &trial->random;
+    uint8_t start = any_start(&trial->job, random);
+    size_t lamps = choose_line(&trial->job, random, line);
+    uint64_t ending = compare_run(start, line, lamps, high_limit(&trial->job, lamps));
+    if (nessflurry_refusal(ending) != 0 || ends_in(ending, NESSFLURRY_STOPPED))
+        return;
+    uint32_t steps = nessflurry_count(ending);
+    uint32_t any = (uint32_t)random_word(random), less = below(random, steps + 1);
+    const uint32_t limits[] = {0, 1, steps, steps - 1, steps + 1, UINT32_MAX, any, less};
+    for (int more = 0; more < 3; more++)
+        try_limit(start, line, lamps, limits[below(random, 8)], ending);
+}
+
+void try_short_buffers(struct trial *trial)
+{
+    struct random *random = &trial->random;
+    struct sizes needed = enough(&trial->job), sizes = enough_or_more(&trial->job, random);
+    uint32_t which = 1 + below(random, 7);
+    if (which & 1)
+        sizes.line = too_few(needed.line, random);
+    if (which & 2)
+        sizes.list = too_few(needed.list, random);
+    if (which & 4)
+        sizes.words = too_few(needed.words, random);
+    uint64_t answer = compare_check(sizes, failing_line, random);
+    demand(nessflurry_refusal(answer) == (which & 1 ? 12 : 13), "12 for a short line buffer, else 13");
+}
+
+/* The run of a line that cannot fail by what the check has answered. */
+static void expect_goal(struct trial *trial, uint8_t start, size_t lamps)
+{
+    uint32_t limit = high_limit(&trial->job, lamps);
+    uint64_t answer = compare_run(start, line, lamps, limit);
+    bool cut_short = limit != UINT32_MAX && ends_in(answer, NESSFLURRY_STOPPED);
+    demand(cut_short || ends_in(answer, NESSFLURRY_GOAL), "goal, as the check has answered");
+}
+
+static void follow_accepted(struct trial *trial)
+{
+    for (int more = 0; more < 3; more++) {
+        size_t lamps = below(&trial->random, one_in(&trial->random, 100) ? MOST_LAMPS + 1 : 40);
+        choose_kinds(&trial->job, &trial->random, line, lamps);
+        expect_goal(trial, marked_start(&trial->job, &trial->random), lamps);
+    }
+}
+
+/* A shorter line than the failing one does not fail: any, or its front. */
+static void try_shorter(struct trial *trial, uint32_t failing_lamps)
+{
+    size_t lamps = below(&trial->random, failing_lamps);
+    if (one_in(&trial->random, 2))
+        choose_kinds(&trial->job, &trial->random, line, lamps);
+    else
+        memcpy(line, failing_line, lamps);
+    expect_goal(trial, marked_start(&trial->job, &trial->random), lamps);
+}
+
+/* Nor does a line as long as it that comes before it: from a lower start, or with a lower kind where the two first differ. */
+static void try_earlier(struct trial *trial, uint8_t failing_start, uint32_t lamps)
+{
+    uint8_t start = marked_start(&trial->job, &trial->random);
+    uint32_t differs = below(&trial->random, lamps);
+    choose_kinds(&trial->job, &trial->random, line, lamps);
+    if (start >= failing_start) {
+        if (failing_line[differs] == 1)
+            return;
+        start = failing_start;
+        memcpy(line, failing_line, differs);
+        line[differs] = (uint8_t)(1 + below(&trial->random, failing_line[differs] - 1u));
+    }
+    expect_goal(trial, start, lamps);
+}
+
+static void follow_failed(struct trial *trial, uint64_t failed)
+{
+    uint8_t start = nessflurry_state(failed);
+    uint32_t lamps = nessflurry_count(failed), most = (uint32_t)trial->job.states * trial->job.worlds + 1;
+    demand(lamps <= most, "a failing line of at most S·W + 1 lamps");
+    if (lamps > most)
+        return;
+    uint64_t ending = compare_run(start, failing_line, lamps, UINT32_MAX);
+    demand(ends_in(ending, nessflurry_code(failed)), "the named failure, from the run of the failing line");
+    try_limit(start, failing_line, lamps, nessflurry_count(ending), ending);
+    if (nessflurry_count(ending) > 0)
+        try_limit(start, failing_line, lamps, nessflurry_count(ending) - 1, ending);
+    if (lamps > 0) {
+        try_shorter(trial, lamps);
+        try_earlier(trial, start, lamps);
+    }
+}
+
+bool try_check(struct trial *trial)
+{
+    uint64_t answer = compare_check(enough_or_more(&trial->job, &trial->random), failing_line, &trial->random);
+    bool accepted = ends_in(answer, NESSFLURRY_GOAL);
+    if (accepted)
+        follow_accepted(trial);
+    else
+        follow_failed(trial, answer);
+    return accepted;
+}

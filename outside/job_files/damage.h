@@ -1,0 +1,21 @@
+/*
+ * Damage to job files: each defect that document 01 gives a number from 1 to 11, alone and several at once.
+ */
+#ifndef OUTSIDE_DAMAGE_H
+#define OUTSIDE_DAMAGE_H
+
+#include "job_files.h"
+
+/*
+ * Puts one to three defects into the file of a job, and answers the lowest of their numbers, which is the refusal due, or 0
+ * where the job has no room for the chosen ones.
+ */
+unsigned damage(struct file *file, const struct job *job, struct random *random);
+
+/* Overwrites a few bytes, wherever they are; what the reader owes then is not known. */
+void scramble(struct file *file, struct random *random);
+
+/* The file cut or lengthened by random bytes to a size of up to MOST_BYTES + 1. */
+void resize(struct file *file, size_t size, struct random *random);
+
+#endif

@@ -1,0 +1,234 @@
+/*
+ * Random jobs: tables with no meaning, plans that are right, members of the other families, and each of them with one change.
+ */
+#include "families.h"
+
+/* ---- Numbers, starts and gaps ---- */
+
+static uint8_t number(struct random *random, uint8_t least, uint8_t most)
+{
+    uint8_t small = most - least < 4 ? most : (uint8_t)(least + 3);
+    switch (below(random, 8)) {
+    case 0: return most;
+    case 1:
+    case 2: return (uint8_t)(least + below(random, most - least + 1u));
+    default: return (uint8_t)(least + below(random, small - least + 1u));
+    }
+}
+
+/* At least so many actions, results and states. */
+static void choose_numbers(struct job *job, struct random *random, uint8_t actions, uint8_t results, uint8_t states)
+{
+    job->actions = number(random, actions, MOST_ACTIONS);
+    job->worlds = number(random, 1, MOST_WORLDS);
+    job->kinds = number(random, 1, MOST_KINDS);
+    job->results = number(random, results, MOST_RESULTS);
+    job->states = number(random, states, MOST_STATES);
+    if (one_in(random, 60))
+        largest_numbers(job);
+}
+
+static void choose_starts(struct job *job, struct random *random)
+{
+    uint32_t rarity = 1 + below(random, 4);
+    for (int world = 0; world < job->worlds; world++)
+        job->starts[world] = one_in(random, rarity);
+    job->starts[below(random, job->worlds)] = 1;
+}
+
+static uint32_t bytes_without_gaps(const struct job *job)
+{
+    uint32_t columns = job->kinds + 1u;
+    return 28u + job->actions + 2u * job->actions * job->worlds * columns + job->worlds + job->worlds * columns
+           + job->states * (1u + job->results);
+}
+
+static void choose_gaps(struct job *job, struct random *random)
+{
+    uint32_t room = MOST_BYTES - bytes_without_gaps(job);
+    for (int part = 0; part <= PARTS; part++) {
+        uint32_t most = room < 3 || one_in(random, 40) ? room : 3;
+        job->gap[part] = (uint16_t)below(random, most + 1);
+        room -= job->gap[part];
+    }
+    if (one_in(random, 40))
+        job->gap[PARTS] = (uint16_t)(job->gap[PARTS] + room);
+}
+
+/* ---- Random tables ---- */
+
+static struct cell legal_cell(const struct job *job, struct random *random)
+{
+    uint8_t next = (uint8_t)below(random, job->worlds), result = (uint8_t)below(random, job->results);
+    return (struct cell){next, result};
+}
+
+static void wild_cells(struct job *job, struct random *random)
+{
+    uint32_t legality = 1 + below(random, 16);
+    for (int action = 0; action < job->actions; action++)
+        for (int world = 0; world < job->worlds; world++)
+            for (int column = job->marks[action]; column <= job->kinds; column++)
+                if (legality == 1 || !one_in(random, legality))
+                    job->cells[action][world][column] = legal_cell(job, random);
+}
+
+static void wild_plan(struct job *job, struct random *random)
+{
+    for (int state = 0; state < job->states; state++) {
+        job->action[state] = (uint8_t)below(random, job->actions);
+        for (int result = 0; result < job->results; result++) {
+            uint8_t target = one_in(random, 4) ? job->states : (uint8_t)below(random, job->states + 1u);
+            job->target[state][result] = one_in(random, 12) ? NONE : target;
+        }
+    }
+}
+
+/* Tables with no meaning at all; most of these plans fail within a few lamps. */
+static void wild_job(struct job *job, struct random *random)
+{
+    uint32_t goal_rarity = 1 + below(random, 12);
+    choose_numbers(job, random, 1, 1, 0);
+    clear_tables(job);
+    for (int action = 0; action < job->actions; action++)
+        job->marks[action] = one_in(random, 3);
+    wild_cells(job, random);
+    for (int world = 0; world < job->worlds; world++)
+        for (int column = 0; column <= job->kinds; column++)
+            job->goal[world][column] = goal_rarity == 1 || !one_in(random, goal_rarity);
+    wild_plan(job, random);
+    job->first = (uint8_t)below(random, job->states + 1u);
+}
+
+/* ---- Plans that are right ---- */
+
+enum { LOOK, PASS }; /* two actions of a right plan: LOOK has result 0 at the line's end only, PASS moves on */
+
+static void right_cells(struct job *job, struct random *random)
+{
+    bool slow = one_in(random, 2); /* worlds rise one at a time, so that some are reached by long lines only */
+    for (int action = 0; action < job->actions; action++)
+        for (int world = 0; world < job->worlds; world++)
+            for (int column = job->marks[action]; column <= job->kinds; column++) {
+                uint32_t worlds = slow && world + 2 < job->worlds ? world + 2u : job->worlds;
+                struct cell *cell = &job->cells[action][world][column];
+                cell->next = (uint8_t)below(random, worlds);
+                if (action == LOOK)
+                    cell->result = column == 0 ? 0 : (uint8_t)(1 + below(random, job->results - 1u));
+                else
+                    cell->result = (uint8_t)below(random, job->results);
+            }
+}
+
+/* A state that is entered at lamps only: it moves on to one that looks, or acts and goes to a later one of its own sort. */
+static void lamp_state(struct job *job, struct random *random, uint8_t state, uint8_t looking, bool may_end)
+{
+    bool last = state + 1 == job->states;
+    uint8_t action = last ? PASS : (uint8_t)(1 + below(random, job->actions - 1u));
+    job->action[state] = action;
+    for (int result = 0; result < job->results; result++) {
+        uint8_t *target = &job->target[state][result];
+        if (!job->marks[action])
+            *target = (uint8_t)(state + 1 + below(random, job->states - state - 1u));
+        else
+            *target = may_end && one_in(random, 8) ? job->states : (uint8_t)below(random, looking);
+    }
+}
+
+static void right_plan(struct job *job, struct random *random, bool may_end)
+{
+    uint8_t looking = (uint8_t)(1 + below(random, job->states - 1u));
+    job->first = (uint8_t)below(random, looking);
+    for (uint8_t state = 0; state < looking; state++) {
+        job->action[state] = LOOK;
+        for (int result = 0; result < job->results; result++)
+            job->target[state][result] = result == 0 ? job->states : (uint8_t)(looking + below(random, job->states - looking));
+    }
+    for (uint8_t state = looking; state < job->states; state++)
+        lamp_state(job, random, state, looking, may_end);
+}
+
+static void right_job(struct job *job, struct random *random)
+{
+    bool may_end = one_in(random, 2); /* in state S with lamps left: then the goal is true in every column */
+    choose_numbers(job, random, 2, 2, 2);
+    clear_tables(job);
+    for (int action = PASS; action < job->actions; action++)
+        job->marks[action] = action == PASS || one_in(random, 3);
+    right_cells(job, random);
+    for (int world = 0; world < job->worlds; world++)
+        for (int column = 0; column <= job->kinds; column++)
+            job->goal[world][column] = column == 0 || may_end || one_in(random, 2);
+    right_plan(job, random, may_end);
+}
+
+/* ---- Members of the other families ---- */
+
+static void random_counting_job(struct job *job, struct random *random)
+{
+    choose_numbers(job, random, 2, 2, 2);
+    uint8_t some = (uint8_t)below(random, job->states);
+    const uint8_t last[] = {job->states, NONE, some};
+    counting_job(job, last[below(random, 3)]);
+}
+
+static void random_turning_job(struct job *job, struct random *random)
+{
+    choose_numbers(job, random, 2, 3, 2);
+    if (job->states * job->worlds > 512 && !one_in(random, 8)) /* a check by walking takes long where both are large */
+        job->worlds = (uint8_t)(512 / job->states);
+    uint8_t movers = number(random, 1, job->states - 1);
+    turning_job(job, movers, (uint32_t)random_word(random));
+}
+
+/* ---- One change ---- */
+
+static void change_plan(struct job *job, struct random *random)
+{
+    uint32_t state = below(random, job->states), result = below(random, job->results);
+    switch (below(random, 4)) {
+    case 0: job->target[state][result] = NONE; break;
+    case 1: job->target[state][result] = (uint8_t)state; break;
+    case 2: job->target[state][result] = (uint8_t)below(random, job->states + 1u); break;
+    default: job->action[state] = (uint8_t)below(random, job->actions); break;
+    }
+}
+
+static void change_cell(struct job *job, struct random *random)
+{
+    uint32_t action = below(random, job->actions), world = below(random, job->worlds);
+    uint32_t column = job->marks[action] + below(random, job->kinds + 1u - job->marks[action]);
+    job->cells[action][world][column] = one_in(random, 2) ? (struct cell){0, NONE} : legal_cell(job, random);
+}
+
+/* One change that leaves a job which the reader does not refuse. */
+static void change_job(struct job *job, struct random *random)
+{
+    uint32_t world = below(random, job->worlds), column = one_in(random, 2) ? 0 : below(random, job->kinds + 1u);
+    switch (below(random, 8)) {
+    case 0: job->first = (uint8_t)below(random, job->states + 1u); break;
+    case 1: choose_starts(job, random); break;
+    case 2:
+    case 3: job->goal[world][column] = !job->goal[world][column]; break;
+    case 4: change_cell(job, random); break;
+    default: job->states > 0 ? change_plan(job, random) : change_cell(job, random); break;
+    }
+}
+
+void random_job(struct job *job, struct random *random)
+{
+    memset(job->gap, 0, sizeof job->gap);
+    switch (below(random, 8)) {
+    case 0:
+    case 1: wild_job(job, random); break;
+    case 2: random_counting_job(job, random); break;
+    case 3: random_turning_job(job, random); break;
+    case 4: bench_line(job, below(random, BENCH_VARIANTS)); break;
+    default: right_job(job, random); break;
+    }
+    choose_starts(job, random);
+    if (one_in(random, 2))
+        change_job(job, random);
+    if (one_in(random, 4))
+        choose_gaps(job, random);
+}

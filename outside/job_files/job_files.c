@@ -1,0 +1,173 @@
+/*
+ * The layout of a job file, and bench line G.
+ */
+#include "job_files.h"
+
+enum { PAIRS_AT = 8, FIRST_PART_AT = 28 };
+
+static size_t put_marks(const struct job *job, uint8_t *to)
+{
+    memcpy(to, job->marks, job->actions);
+    return job->actions;
+}
+
+static size_t put_cells(const struct job *job, uint8_t *to)
+{
+    size_t at = 0;
+    for (int action = 0; action < job->actions; action++)
+        for (int world = 0; world < job->worlds; world++)
+            for (int column = 0; column <= job->kinds; column++) {
+                to[at++] = job->cells[action][world][column].next;
+                to[at++] = job->cells[action][world][column].result;
+            }
+    return at;
+}
+
+static size_t put_starts(const struct job *job, uint8_t *to)
+{
+    memcpy(to, job->starts, job->worlds);
+    return job->worlds;
+}
+
+static size_t put_goal(const struct job *job, uint8_t *to)
+{
+    size_t columns = job->kinds + 1u;
+    for (int world = 0; world < job->worlds; world++)
+        memcpy(to + world * columns, job->goal[world], columns);
+    return job->worlds * columns;
+}
+
+static size_t put_plan(const struct job *job, uint8_t *to)
+{
+    size_t row = 1u + job->results;
+    for (int state = 0; state < job->states; state++) {
+        to[state * row] = job->action[state];
+        memcpy(to + state * row + 1, job->target[state], job->results);
+    }
+    return job->states * row;
+}
+
+static size_t (*const put_part[PARTS])(const struct job *, uint8_t *) = {put_marks, put_cells, put_starts, put_goal, put_plan};
+
+static uint16_t number_at(const struct file *file, size_t at)
+{
+    return (uint16_t)(file->bytes[at] | file->bytes[at + 1] << 8);
+}
+
+static void set_number(struct file *file, size_t at, uint16_t number)
+{
+    file->bytes[at] = (uint8_t)number;
+    file->bytes[at + 1] = (uint8_t)(number >> 8);
+}
+
+uint16_t part_offset(const struct file *file, enum part part) { return number_at(file, PAIRS_AT + 4u * part); }
+
+uint16_t part_length(const struct file *file, enum part part) { return number_at(file, PAIRS_AT + 4u * part + 2); }
+
+void set_pair(struct file *file, enum part part, uint16_t offset, uint16_t length)
+{
+    set_number(file, PAIRS_AT + 4u * part, offset);
+    set_number(file, PAIRS_AT + 4u * part + 2, length);
+}
+
+void write_file(struct file *file, const struct job *job, struct random *random)
+{
+    const uint8_t numbers[PAIRS_AT] = {job->actions, job->worlds, job->kinds, job->results, job->states, job->first, 0, 0};
+    size_t at = FIRST_PART_AT;
+    memcpy(file->bytes, numbers, PAIRS_AT);
+    for (enum part part = MARKS; part < PARTS; part++) {
+        random_bytes(random, file->bytes + at, job->gap[part]);
+        at += job->gap[part];
+        size_t length = put_part[part](job, file->bytes + at);
+        set_pair(file, part, (uint16_t)at, (uint16_t)length);
+        at += length;
+    }
+    random_bytes(random, file->bytes + at, job->gap[PARTS]);
+    file->size = at + job->gap[PARTS];
+}
+
+void clear_tables(struct job *job)
+{
+    memset(job->marks, 0, sizeof job->marks);
+    memset(job->starts, 0, sizeof job->starts);
+    memset(job->goal, 0, sizeof job->goal);
+    memset(job->action, 0, sizeof job->action);
+    memset(job->target, NONE, sizeof job->target);
+    for (int action = 0; action < MOST_ACTIONS; action++)
+        for (int world = 0; world < MOST_WORLDS; world++)
+            for (int column = 0; column <= MOST_KINDS; column++)
+                job->cells[action][world][column] = (struct cell){0, NONE};
+}
+
+static void set_row(struct job *job, uint8_t state, uint8_t action, uint8_t if_0, uint8_t if_1)
+{
+    job->action[state] = action;
+    job->target[state][0] = if_0;
+    job->target[state][1] = if_1;
+}
+
+enum { PEEK, TEST, NEXT, FLAG };
+enum { CLEAR, FLAGGED, SPOILT };
+enum { SOUND = 1, FAULTY = 2 };
+
+static struct cell bench_cell(int action, uint8_t world, uint8_t column)
+{
+    const struct cell not_legal = {0, NONE};
+    bool right = (world == CLEAR && column == SOUND) || (world == FLAGGED && column == FAULTY);
+    if (action == PEEK)
+        return (struct cell){world, column != 0};
+    if (column == 0)
+        return not_legal;
+    if (action == TEST)
+        return (struct cell){world, (uint8_t)(column - 1)};
+    if (action == NEXT)
+        return (struct cell){right ? CLEAR : SPOILT, 0};
+    if (world == FLAGGED)
+        return not_legal;
+    return (struct cell){world == CLEAR ? FLAGGED : SPOILT, 0};
+}
+
+static void bench_tables(struct job *job)
+{
+    memset(job, 0, sizeof *job);
+    clear_tables(job);
+    job->actions = 4;
+    job->worlds = 3;
+    job->kinds = 2;
+    job->results = 2;
+    job->states = 4;
+    job->marks[NEXT] = 1;
+    job->starts[CLEAR] = 1;
+    job->goal[CLEAR][0] = 1;
+    for (int action = 0; action < job->actions; action++)
+        for (uint8_t world = 0; world < job->worlds; world++)
+            for (uint8_t column = 0; column <= job->kinds; column++)
+                job->cells[action][world][column] = bench_cell(action, world, column);
+}
+
+static void five_states(struct job *job)
+{
+    job->states = 5;
+    set_row(job, 0, PEEK, 5, 1);
+    set_row(job, 3, NEXT, 4, NONE);
+    set_row(job, 4, PEEK, 5, NONE);
+}
+
+void bench_line(struct job *job, enum bench_variant variant)
+{
+    bench_tables(job);
+    set_row(job, 0, PEEK, 4, 1);
+    set_row(job, 1, TEST, 3, 2);
+    set_row(job, 2, FLAG, 3, NONE);
+    set_row(job, 3, NEXT, 0, NONE);
+    switch (variant) {
+    case BENCH_TEST_UNHEEDED: set_row(job, 1, TEST, 3, 3); break;
+    case BENCH_PEEK_FOR_EVER: set_row(job, 0, PEEK, 4, 0); break;
+    case BENCH_END_UNFORESEEN: set_row(job, 0, PEEK, NONE, 1); break;
+    case BENCH_ENDS_AT_ONCE: job->first = 4; break;
+    case BENCH_FIRST_TEST: job->first = 1; break;
+    case BENCH_FIVE_STATES: five_states(job); break;
+    case BENCH_ONE_LATER: job->gap[CELLS] = 1; break;
+    default: break;
+    }
+}

@@ -1,0 +1,71 @@
+/*
+ * Long walks. Program state and world state are the digits of a counter that is turned to its end at a single lamp.
+ */
+#include "families.h"
+
+enum { TURN };                 /* the action of the states that are a digit; every other action moves on */
+enum { STAYS, WRAPS, PASSES }; /* its results 0, 1, and 2 to R-2; R-1 is the result at the line's end */
+
+static struct cell turned(const struct job *job, uint32_t turning, uint8_t world, uint8_t column)
+{
+    int passing = job->results - 1 - PASSES;
+    if (column == 0)
+        return (struct cell){world, job->results - 1};
+    if (passing > 0 && !(turning >> column & 1))
+        return (struct cell){world, (uint8_t)(PASSES + (world + column) % passing)};
+    if (world + 1 < job->worlds)
+        return (struct cell){world + 1, STAYS};
+    return (struct cell){0, WRAPS};
+}
+
+/* Worlds and results are spread so that eight kinds of lamp lead from 64 worlds to each of the 512 pairs of world and result. */
+static struct cell passed(const struct job *job, uint8_t action, uint8_t world, uint8_t column)
+{
+    uint8_t next = (uint8_t)((5 * world + column + action) % job->worlds);
+    return (struct cell){next, (uint8_t)((next + column) % job->results)};
+}
+
+static void turning_cells(struct job *job, uint32_t turning)
+{
+    for (uint8_t action = 0; action < job->actions; action++)
+        for (uint8_t world = 0; world < job->worlds; world++)
+            for (uint8_t column = job->marks[action]; column <= job->kinds; column++)
+                job->cells[action][world][column] =
+                    action == TURN ? turned(job, turning, world, column) : passed(job, action, world, column);
+}
+
+static void digit_row(struct job *job, uint8_t state, uint8_t digits, uint8_t movers)
+{
+    job->action[state] = TURN;
+    for (int result = PASSES; result < job->results; result++)
+        job->target[state][result] = (uint8_t)(digits + (state + result) % movers);
+    job->target[state][STAYS] = state;
+    job->target[state][WRAPS] = state + 1; /* behind the last digit comes the first state that moves on */
+    job->target[state][job->results - 1] = job->states;
+}
+
+/* The targets of all movers together go round the digits and the final state. */
+static void mover_row(struct job *job, uint8_t mover, uint8_t digits)
+{
+    uint8_t state = digits + mover;
+    job->action[state] = (uint8_t)(1 + mover % (job->actions - 1));
+    for (int result = 0; result < job->results; result++) {
+        int turn = (mover * job->results + result) % (digits + 1);
+        job->target[state][result] = turn < digits ? (uint8_t)turn : job->states;
+    }
+}
+
+void turning_job(struct job *job, uint8_t movers, uint32_t turning)
+{
+    uint8_t digits = job->states - movers;
+    clear_tables(job);
+    job->first = 0;
+    memset(job->starts, 1, sizeof job->starts);
+    memset(job->goal, 1, sizeof job->goal);
+    memset(job->marks + 1, 1, sizeof job->marks - 1);
+    turning_cells(job, turning);
+    for (uint8_t state = 0; state < digits; state++)
+        digit_row(job, state, digits, movers);
+    for (uint8_t mover = 0; mover < movers; mover++)
+        mover_row(job, mover, digits);
+}

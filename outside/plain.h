@@ -1,0 +1,19 @@
+/*
+ * The operations of document 01, once more and plainly. Each function takes and answers what its namesake in nessflurry.h does:
+ * the codes, the layout of the answers and what each field holds are described there.
+ */
+#ifndef PLAIN_H
+#define PLAIN_H
+
+#include "nessflurry.h"
+
+uint64_t plain_read(const uint8_t *file, size_t file_size, uint16_t head[16]);
+uint64_t plain_walk(const uint8_t *file, size_t file_size, uint8_t state, uint8_t world, uint8_t column);
+uint64_t plain_run(const uint8_t *file, size_t file_size, uint8_t start, const uint8_t *line, size_t lamps, uint32_t limit);
+uint64_t plain_check(const uint8_t *file, size_t file_size, uint8_t *line, size_t line_size, uint32_t *list, size_t list_size,
+                     uint64_t *words, size_t words_size);
+uint64_t plain_begin(const uint8_t *file, size_t file_size, uint16_t lamps);
+uint64_t plain_action(const uint8_t *file, size_t file_size, uint8_t state, uint16_t lamps);
+uint64_t plain_report(const uint8_t *file, size_t file_size, uint8_t state, uint16_t lamps, uint8_t result);
+
+#endif

@@ -1,0 +1,15 @@
+/* The test of the plain implementation. Prints what was met, and fails if any answer differs from the expected one. */
+#include "cases.h"
+
+#include <stdio.h>
+
+int main(void)
+{
+    bench_cases();
+    refusal_cases();
+    long_line_cases();
+    printf("bench line G, refusals, long lines: %u answers compared, %u differ\n", compared, differing);
+    random_cases();
+    printf("all: %u answers compared, %u differ\n", compared, differing);
+    return differing != 0;
+}

@@ -1,0 +1,33 @@
+/*
+ * The two sides that are held against each other: the product, and the plain implementation.
+ */
+#ifndef OUTSIDE_SIDES_H
+#define OUTSIDE_SIDES_H
+
+#include "nessflurry.h"
+#include "plain.h"
+
+enum { NESSFLURRY, PLAIN, SIDES };
+
+struct side {
+    const char *name;
+    uint64_t (*read)(const uint8_t *file, size_t file_size, uint16_t head[16]);
+    uint64_t (*walk)(const uint8_t *file, size_t file_size, uint8_t state, uint8_t world, uint8_t column);
+    uint64_t (*run)(const uint8_t *file, size_t file_size, uint8_t start, const uint8_t *line, size_t lamps, uint32_t limit);
+    uint64_t (*check)(const uint8_t *file, size_t file_size, uint8_t *line, size_t line_size, uint32_t *list, size_t list_size,
+                      uint64_t *words, size_t words_size);
+    uint64_t (*begin)(const uint8_t *file, size_t file_size, uint16_t lamps);
+    uint64_t (*action)(const uint8_t *file, size_t file_size, uint8_t state, uint16_t lamps);
+    uint64_t (*report)(const uint8_t *file, size_t file_size, uint8_t state, uint16_t lamps, uint8_t result);
+};
+
+static const struct side sides[SIDES] = {
+    {"nessflurry", nessflurry_read, nessflurry_walk, nessflurry_run, nessflurry_check, nessflurry_begin, nessflurry_action,
+     nessflurry_report},
+    {"plain", plain_read, plain_walk, plain_run, plain_check, plain_begin, plain_action, plain_report},
+};
+
+/* The lent buffers of a check that are enough for every job. */
+enum { LINE_BYTES = 4097, LIST_NUMBERS = 4160, WORDS = 65 };
+
+#endif
