@@ -1,4 +1,5 @@
-// Text in a buffer. Each function writes at a place and answers the place behind what it wrote.
+// Text in a buffer. Each function writes at a place and answers the place behind what it wrote. They are for this crate alone: each
+// asks for room in the buffer.
 ghost use mathlib.Core.Path.{_≡_};
 ghost use mathlib.Core.List.{[], _∷_};
 ghost use Prim.Native.Nat.{_+_, _*_, _<_, _≤_};

@@ -1,7 +1,6 @@
 // The cabinet on bench line G: the bench case of document 01, a whole list of calls along the line [1], and the order of the refusals.
 // Prints what the operations answer.
-ghost use mathlib.Core.Path.{_≡_};
-ghost use lib.ListN.{length};
+use bench_jobs::bench;
 use cabinet::ActionAnswer;
 use cabinet::BeginAnswer;
 use cabinet::ReportAnswer;
@@ -86,22 +85,6 @@ fn report(file: &[u8], state: Cabinet, result: u8) -> Cabinet {
             kept
         }
     }
-}
-
-// Bench line G.
-fn bench() -> [u8; 128]
-    ensures { λ r. ⌜ 128 ≡ length r ⌝ }
-{
-    [
-        4, 3, 2, 2, 4, 0, 0, 0, 28, 0, 4, 0, 32, 0, 72, 0, 104, 0,
-        3, 0, 107, 0, 9, 0, 116, 0, 12, 0, 0, 0, 1, 0, 0, 0, 0, 1,
-        0, 1, 1, 0, 1, 1, 1, 1, 2, 0, 2, 1, 2, 1, 0, 255, 0, 0,
-        0, 1, 0, 255, 1, 0, 1, 1, 0, 255, 2, 0, 2, 1, 0, 255, 0, 0,
-        2, 0, 0, 255, 2, 0, 0, 0, 0, 255, 2, 0, 2, 0, 0, 255, 1, 0,
-        1, 0, 0, 255, 0, 255, 0, 255, 0, 255, 2, 0, 2, 0, 1, 0, 0, 1,
-        0, 0, 0, 0, 0, 0, 0, 0, 0, 4, 1, 1, 3, 2, 3, 3, 255, 2,
-        0, 255,
-    ]
 }
 
 fn bench_case(g: &[u8]) {

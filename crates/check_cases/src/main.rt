@@ -2,6 +2,8 @@
 ghost use mathlib.Core.Path.{_≡_};
 ghost use Prim.Native.Nat.{_≤_};
 ghost use lib.ListN.{length};
+use bench_jobs::bench;
+use bench_jobs::five_states;
 use lamp_line::Ending;
 use lamp_line::FailureKind;
 use lamp_line::WorldState;
@@ -133,38 +135,6 @@ fn check_large(name: &[u8], file: &[u8]) {
     let mut list = [9u32; 20];
     let mut words = [0u64; 2];
     check(name, file, &mut line, &mut list, &mut words, 0);
-}
-
-// Bench line G.
-fn bench() -> [u8; 128]
-    ensures { λ r. ⌜ 128 ≡ length r ⌝ }
-{
-    [
-        4, 3, 2, 2, 4, 0, 0, 0, 28, 0, 4, 0, 32, 0, 72, 0, 104, 0,
-        3, 0, 107, 0, 9, 0, 116, 0, 12, 0, 0, 0, 1, 0, 0, 0, 0, 1,
-        0, 1, 1, 0, 1, 1, 1, 1, 2, 0, 2, 1, 2, 1, 0, 255, 0, 0,
-        0, 1, 0, 255, 1, 0, 1, 1, 0, 255, 2, 0, 2, 1, 0, 255, 0, 0,
-        2, 0, 0, 255, 2, 0, 0, 0, 0, 255, 2, 0, 2, 0, 0, 255, 1, 0,
-        1, 0, 0, 255, 0, 255, 0, 255, 0, 255, 2, 0, 2, 0, 1, 0, 0, 1,
-        0, 0, 0, 0, 0, 0, 0, 0, 0, 4, 1, 1, 3, 2, 3, 3, 255, 2,
-        0, 255,
-    ]
-}
-
-// Bench line G with five states, of which state 3 goes to 4 and state 4 looks for the end.
-fn five_states() -> [u8; 131]
-    ensures { λ r. ⌜ 131 ≡ length r ⌝ }
-{
-    [
-        4, 3, 2, 2, 5, 0, 0, 0, 28, 0, 4, 0, 32, 0, 72, 0, 104, 0,
-        3, 0, 107, 0, 9, 0, 116, 0, 15, 0, 0, 0, 1, 0, 0, 0, 0, 1,
-        0, 1, 1, 0, 1, 1, 1, 1, 2, 0, 2, 1, 2, 1, 0, 255, 0, 0,
-        0, 1, 0, 255, 1, 0, 1, 1, 0, 255, 2, 0, 2, 1, 0, 255, 0, 0,
-        2, 0, 0, 255, 2, 0, 0, 0, 0, 255, 2, 0, 2, 0, 0, 255, 1, 0,
-        1, 0, 0, 255, 0, 255, 0, 255, 0, 255, 2, 0, 2, 0, 1, 0, 0, 1,
-        0, 0, 0, 0, 0, 0, 0, 0, 0, 5, 1, 1, 3, 2, 3, 3, 255, 2,
-        4, 255, 0, 5, 255,
-    ]
 }
 
 // No program state but the final one, two starts: the goal of start 0 is true at the end only, that of start 1 at a lamp only.

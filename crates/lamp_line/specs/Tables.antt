@@ -1,5 +1,5 @@
 -- The line and its tables (document 01, the section of that name), and the lamp line as an action theory of 001.
--- The tables are functions. How the bytes of a job file give them is defined in the crate job_file.
+-- The tables are functions. How the bytes of a job file give them is defined in the crate job_layout.
 use mathlib.Core.Path.{_≡_}
 use mathlib.Core.Bool.{Bool, true, false, cond}
 use mathlib.Core.Option.{Option, some}

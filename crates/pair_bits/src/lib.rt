@@ -1,4 +1,6 @@
 // One bit a pair in lent 64-bit words: cleared, read, set and summed. A job has at most 65 times 64 pairs.
+//
+// These functions are for the search in the crate above and not for users: each asks for words that have room for the bits.
 ghost use mathlib.Core.Path.{_≡_};
 ghost use Prim.Native.Nat.{_*_, _<_, _≤_};
 ghost use lib.ListN.{length};

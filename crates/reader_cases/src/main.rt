@@ -1,6 +1,7 @@
 // The reader on the bench cases of document 01 and on a file for each refusal: prints what it answers of each.
 ghost use mathlib.Core.Path.{_≡_};
 ghost use lib.ListN.{length};
+use bench_jobs::bench;
 use job_file::Reading;
 use job_layout::Job;
 use job_layout::Part;
@@ -49,22 +50,6 @@ fn show_first(name: &[u8], size: usize, file: &[u8]) {
     if size <= file.len() {
         show(name, &file[..size]);
     }
-}
-
-// Bench line G.
-fn bench() -> [u8; 128]
-    ensures { λ r. ⌜ 128 ≡ length r ⌝ }
-{
-    [
-        4, 3, 2, 2, 4, 0, 0, 0, 28, 0, 4, 0, 32, 0, 72, 0, 104, 0,
-        3, 0, 107, 0, 9, 0, 116, 0, 12, 0, 0, 0, 1, 0, 0, 0, 0, 1,
-        0, 1, 1, 0, 1, 1, 1, 1, 2, 0, 2, 1, 2, 1, 0, 255, 0, 0,
-        0, 1, 0, 255, 1, 0, 1, 1, 0, 255, 2, 0, 2, 1, 0, 255, 0, 0,
-        2, 0, 0, 255, 2, 0, 0, 0, 0, 255, 2, 0, 2, 0, 0, 255, 1, 0,
-        1, 0, 0, 255, 0, 255, 0, 255, 0, 255, 2, 0, 2, 0, 1, 0, 0, 1,
-        0, 0, 0, 0, 0, 0, 0, 0, 0, 4, 1, 1, 3, 2, 3, 3, 255, 2,
-        0, 255,
-    ]
 }
 
 // The bench line with its parts from the second on one place later.

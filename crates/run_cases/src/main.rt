@@ -1,6 +1,8 @@
 // The run and the one-lamp walk on the bench cases of document 01 and on small jobs: prints what they answer.
 ghost use mathlib.Core.Path.{_≡_};
 ghost use lib.ListN.{length};
+use bench_jobs::bench;
+use bench_jobs::five_states;
 use lamp_line::Ending;
 use lamp_line::FailureKind;
 use lamp_line::ProgramState;
@@ -86,38 +88,6 @@ fn walk(name: &[u8], file: &[u8], state: u8, world: u8, column: u8) {
     io::write_all(STDOUT_FILENO, b":");
     print_walk(lamp_walk::walk_lamp(file, ProgramState(state), WorldState(world), column));
     io::write_all(STDOUT_FILENO, b"\n");
-}
-
-// Bench line G.
-fn bench() -> [u8; 128]
-    ensures { λ r. ⌜ 128 ≡ length r ⌝ }
-{
-    [
-        4, 3, 2, 2, 4, 0, 0, 0, 28, 0, 4, 0, 32, 0, 72, 0, 104, 0,
-        3, 0, 107, 0, 9, 0, 116, 0, 12, 0, 0, 0, 1, 0, 0, 0, 0, 1,
-        0, 1, 1, 0, 1, 1, 1, 1, 2, 0, 2, 1, 2, 1, 0, 255, 0, 0,
-        0, 1, 0, 255, 1, 0, 1, 1, 0, 255, 2, 0, 2, 1, 0, 255, 0, 0,
-        2, 0, 0, 255, 2, 0, 0, 0, 0, 255, 2, 0, 2, 0, 0, 255, 1, 0,
-        1, 0, 0, 255, 0, 255, 0, 255, 0, 255, 2, 0, 2, 0, 1, 0, 0, 1,
-        0, 0, 0, 0, 0, 0, 0, 0, 0, 4, 1, 1, 3, 2, 3, 3, 255, 2,
-        0, 255,
-    ]
-}
-
-// Bench line G with five states, of which state 3 goes to 4 and state 4 looks for the end.
-fn five_states() -> [u8; 131]
-    ensures { λ r. ⌜ 131 ≡ length r ⌝ }
-{
-    [
-        4, 3, 2, 2, 5, 0, 0, 0, 28, 0, 4, 0, 32, 0, 72, 0, 104, 0,
-        3, 0, 107, 0, 9, 0, 116, 0, 15, 0, 0, 0, 1, 0, 0, 0, 0, 1,
-        0, 1, 1, 0, 1, 1, 1, 1, 2, 0, 2, 1, 2, 1, 0, 255, 0, 0,
-        0, 1, 0, 255, 1, 0, 1, 1, 0, 255, 2, 0, 2, 1, 0, 255, 0, 0,
-        2, 0, 0, 255, 2, 0, 0, 0, 0, 255, 2, 0, 2, 0, 0, 255, 1, 0,
-        1, 0, 0, 255, 0, 255, 0, 255, 0, 255, 2, 0, 2, 0, 1, 0, 0, 1,
-        0, 0, 0, 0, 0, 0, 0, 0, 0, 5, 1, 1, 3, 2, 3, 3, 255, 2,
-        4, 255, 0, 5, 255,
-    ]
 }
 
 // One program state, which is met in worlds 0, 1 and 2 and left from world 2.
