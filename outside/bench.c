@@ -3,6 +3,7 @@
  * how the check's time grows with the numbers of a job. Each answer of the two sides is compared.
  */
 #define _DEFAULT_SOURCE
+#include "job_files/arguments.h"
 #include "job_files/families.h"
 #include "sides.h"
 

@@ -27,7 +27,4 @@ static const struct side sides[SIDES] = {
     {"plain", plain_read, plain_walk, plain_run, plain_check, plain_begin, plain_action, plain_report},
 };
 
-/* The lent buffers of a check that are enough for every job. */
-enum { LINE_BYTES = 4097, LIST_NUMBERS = 4160, WORDS = 65 };
-
 #endif

@@ -73,14 +73,34 @@ uint64_t compare_read(struct random *random)
     return answers[NESSFLURRY];
 }
 
-uint64_t compare_walk(uint8_t state, uint8_t world, uint8_t column)
+/* The call at `place` of an operation that is lent nothing but the file. */
+static uint64_t call_placed(int i)
+{
+    const uint64_t *with = place.arguments;
+    switch (place.operation) {
+    case WALK: return sides[i].walk(bytes[i], size, (uint8_t)with[0], (uint8_t)with[1], (uint8_t)with[2]);
+    case BEGIN: return sides[i].begin(bytes[i], size, (uint16_t)with[0]);
+    case ACTION: return sides[i].action(bytes[i], size, (uint8_t)with[0], (uint16_t)with[1]);
+    default: return sides[i].report(bytes[i], size, (uint8_t)with[0], (uint16_t)with[1], (uint8_t)with[2]);
+    }
+}
+
+static uint64_t compare_call(enum operation operation, uint64_t first, uint64_t second, uint64_t third)
 {
     uint64_t answers[SIDES];
-    place_call(WALK, state, world, column);
+    place_call(operation, first, second, third);
     for (int i = 0; i < SIDES; i++)
-        answers[i] = sides[i].walk(bytes[i], size, state, world, column);
+        answers[i] = call_placed(i);
     return settle(answers);
 }
+
+uint64_t compare_walk(uint8_t state, uint8_t world, uint8_t column) { return compare_call(WALK, state, world, column); }
+
+uint64_t compare_begin(uint16_t lamps) { return compare_call(BEGIN, lamps, 0, 0); }
+
+uint64_t compare_action(uint8_t state, uint16_t lamps) { return compare_call(ACTION, state, lamps, 0); }
+
+uint64_t compare_report(uint8_t state, uint16_t lamps, uint8_t result) { return compare_call(REPORT, state, lamps, result); }
 
 uint64_t compare_run(uint8_t start, const uint8_t *line, size_t lamps, uint32_t limit)
 {
@@ -91,33 +111,6 @@ uint64_t compare_run(uint8_t start, const uint8_t *line, size_t lamps, uint32_t 
         answers[i] = sides[i].run(bytes[i], size, start, lamp_kinds, lamps, limit);
         demand(memcmp(lamp_kinds, line, lamps) == 0 && guard_holds(&lent[i].line), "the line as it was");
     }
-    return settle(answers);
-}
-
-uint64_t compare_begin(uint16_t lamps)
-{
-    uint64_t answers[SIDES];
-    place_call(BEGIN, lamps, 0, 0);
-    for (int i = 0; i < SIDES; i++)
-        answers[i] = sides[i].begin(bytes[i], size, lamps);
-    return settle(answers);
-}
-
-uint64_t compare_action(uint8_t state, uint16_t lamps)
-{
-    uint64_t answers[SIDES];
-    place_call(ACTION, state, lamps, 0);
-    for (int i = 0; i < SIDES; i++)
-        answers[i] = sides[i].action(bytes[i], size, state, lamps);
-    return settle(answers);
-}
-
-uint64_t compare_report(uint8_t state, uint16_t lamps, uint8_t result)
-{
-    uint64_t answers[SIDES];
-    place_call(REPORT, state, lamps, result);
-    for (int i = 0; i < SIDES; i++)
-        answers[i] = sides[i].report(bytes[i], size, state, lamps, result);
     return settle(answers);
 }
 

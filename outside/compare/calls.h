@@ -5,7 +5,7 @@
 #ifndef OUTSIDE_CALLS_H
 #define OUTSIDE_CALLS_H
 
-#include "job_files/job_files.h"
+#include "job_files/arguments.h"
 
 /* Room for what is lent: before the first call. */
 void open_rooms(void);
@@ -20,13 +20,11 @@ uint64_t compare_begin(uint16_t lamps);
 uint64_t compare_action(uint8_t state, uint16_t lamps);
 uint64_t compare_report(uint8_t state, uint16_t lamps, uint8_t result);
 
-/* Sizes of the buffers that a check is lent, in elements; each at most ROOM_BEYOND more than is enough for every job. */
+/*
+ * The check, with random content in the buffers before. Each is at most ROOM_BEYOND elements larger than is enough for every
+ * job. Where the check fails, the line is written to `failing`, of LINE_BYTES.
+ */
 enum { ROOM_BEYOND = 100 };
-struct sizes {
-    size_t line, list, words;
-};
-
-/* The check, with random content in the buffers before. Where it fails, the line is written to `failing`, of LINE_BYTES. */
 uint64_t compare_check(struct sizes sizes, uint8_t *failing, struct random *random);
 
 #endif

@@ -9,25 +9,9 @@ uint8_t about(struct random *random, uint32_t count)
     }
 }
 
-uint8_t marked_start(const struct job *job, struct random *random)
-{
-    uint8_t world = (uint8_t)below(random, job->worlds);
-    while (!job->starts[world])
-        world = (uint8_t)((world + 1) % job->worlds);
-    return world;
-}
-
 uint8_t any_start(const struct job *job, struct random *random)
 {
     return one_in(random, 8) ? about(random, job->worlds) : marked_start(job, random);
-}
-
-void choose_kinds(const struct job *job, struct random *random, uint8_t *line, size_t lamps)
-{
-    uint8_t kind = (uint8_t)(1 + below(random, job->kinds));
-    bool mixed = !one_in(random, 4);
-    for (size_t i = 0; i < lamps; i++)
-        line[i] = mixed ? (uint8_t)(1 + below(random, job->kinds)) : kind;
 }
 
 static size_t choose_lamps(struct random *random)
@@ -57,12 +41,6 @@ size_t choose_line(const struct job *job, struct random *random, uint8_t line[MO
         *lamp = no_kind(job, random);
     }
     return lamps;
-}
-
-struct sizes enough(const struct job *job)
-{
-    size_t pairs = (job->states + 1u) * job->worlds;
-    return (struct sizes){(size_t)job->states * job->worlds + 1, pairs, (pairs + 63) / 64};
 }
 
 struct sizes enough_or_more(const struct job *job, struct random *random)

@@ -11,18 +11,13 @@ enum { MOST_LAMPS = 65535 }; /* of a line */
 /* A number that is mostly below the count, and sometimes not. */
 uint8_t about(struct random *random, uint32_t count);
 
-/* A marked start; and any start, mostly a marked one. */
-uint8_t marked_start(const struct job *job, struct random *random);
+/* Any start, mostly a marked one. */
 uint8_t any_start(const struct job *job, struct random *random);
-
-/* Lamp kinds that the job has: any mixture, or one kind all along. */
-void choose_kinds(const struct job *job, struct random *random, uint8_t *line, size_t lamps);
 
 /* A line as anyone might hand it in: sometimes with a kind that no lamp has, sometimes too long. Answers its lamps. */
 size_t choose_line(const struct job *job, struct random *random, uint8_t line[MOST_LAMPS + 1]);
 
-/* Buffers of a check: as large as the job needs them; those, or larger; and too few elements where so many are needed. */
-struct sizes enough(const struct job *job);
+/* Buffers of a check: as large as the job needs them, or larger; and too few elements where so many are needed. */
 struct sizes enough_or_more(const struct job *job, struct random *random);
 size_t too_few(size_t needed, struct random *random);
 

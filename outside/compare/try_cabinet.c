@@ -3,7 +3,7 @@
  * and has to take the states of the execution.
  */
 #include "choices.h"
-#include "sides.h"
+#include "nessflurry.h"
 #include "tally.h"
 #include "trials.h"
 

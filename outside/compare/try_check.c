@@ -2,7 +2,7 @@
  * Runs with several limits, and the check with the runs that follow from it.
  */
 #include "choices.h"
-#include "sides.h"
+#include "nessflurry.h"
 #include "tally.h"
 #include "trials.h"
 

@@ -2,7 +2,7 @@
  * Single calls: every operation on any file, and walks and cabinet calls by themselves.
  */
 #include "choices.h"
-#include "sides.h"
+#include "nessflurry.h"
 #include "tally.h"
 #include "trials.h"
 

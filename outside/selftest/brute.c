@@ -3,14 +3,7 @@
  * Nothing is kept from one line for the next but the set of pairs reached.
  */
 #include "brute.h"
-#include "plain.h"
-
-#include <string.h>
-
-/* Where the reader's answer has a number, or the offset of a part. */
-enum { WORLDS = 1, KINDS = 2, RESULTS = 3, FINAL = 4, FIRST = 5, MARKS = 6, CELLS = 8, STARTS = 10, GOAL = 12, PLAN = 14 };
-
-enum { NONE = 255 };
+#include "cases.h"
 
 /* An execution on its way: where it is, and what it met since it came to this lamp or to the line's end. */
 struct execution {
@@ -20,61 +13,61 @@ struct execution {
     bool met_here[BRUTE_PAIRS];
 };
 
-static uint64_t ends(unsigned code, uint32_t steps)
+static void arrive(struct execution *now, bool reached[BRUTE_PAIRS])
 {
-    return (uint64_t)code << 8 | (uint64_t)steps << 32;
+    reached[now->state * job.worlds + now->world] = true;
+    now->steps_on_arrival = now->steps;
+    memset(now->met_here, 0, sizeof(bool) * job.states * job.worlds);
 }
 
-static void arrive(struct execution *now, const uint16_t head[16], bool reached[BRUTE_PAIRS])
+static bool met_before(struct execution *now)
 {
-    reached[now->state * head[WORLDS] + now->world] = true;
-    now->steps_on_arrival = now->steps;
-    memset(now->met_here, 0, sizeof(bool) * head[FINAL] * head[WORLDS]);
+    bool *const met = &now->met_here[now->state * job.worlds + now->world];
+    const bool before = *met;
+    *met = true;
+    return before;
 }
 
 /*
  * The execution of 001 has no counter: it goes on for ever exactly if a pair comes twice at one lamp, since whatever
  * follows the first coming follows the second too. 01, One run, says which steps are counted then: S·W at this lamp.
  */
-uint64_t brute_run(const uint8_t *file, size_t file_size, uint8_t start, const uint8_t *line, size_t lamps,
-                   bool reached[BRUTE_PAIRS])
+uint64_t brute_run(uint8_t start, const uint8_t *line, size_t lamps, bool reached[BRUTE_PAIRS])
 {
-    uint16_t head[16];
-    plain_read(file, file_size, head);
-    struct execution now = {.state = head[FIRST], .world = start};
-    arrive(&now, head, reached);
+    struct execution now;
+    now.state = job.first;
+    now.world = start;
+    now.passed = 0;
+    now.steps = 0;
+    arrive(&now, reached);
     for (;;) {
         const unsigned column = now.passed < lamps ? line[now.passed] : 0;
-        if (now.state == head[FINAL]) {
-            const uint8_t goal = file[head[GOAL] + now.world * (head[KINDS] + 1u) + column];
-            return ends(goal == 1 ? NESSFLURRY_GOAL : NESSFLURRY_GOAL_FALSE, now.steps);
-        }
-        bool *const met = &now.met_here[now.state * head[WORLDS] + now.world];
-        if (*met)
-            return ends(NESSFLURRY_CIRCLES, now.steps_on_arrival + head[FINAL] * head[WORLDS]);
-        *met = true;
-        const uint8_t *const row = file + head[PLAN] + now.state * (1u + head[RESULTS]);
-        const uint8_t *const cell =
-            file + head[CELLS] + 2 * ((row[0] * head[WORLDS] + now.world) * (head[KINDS] + 1u) + column);
-        if (cell[1] == NONE)
-            return ends(NESSFLURRY_NOT_LEGAL, now.steps);
-        if (row[1 + cell[1]] == NONE)
-            return ends(NESSFLURRY_NO_BRANCH, now.steps);
-        now.state = row[1 + cell[1]];
-        now.world = cell[0];
+        if (now.state == job.states)
+            return ending(job.goal[now.world][column] == 1 ? NESSFLURRY_GOAL : NESSFLURRY_GOAL_FALSE, now.steps);
+        if (met_before(&now))
+            return ending(NESSFLURRY_CIRCLES, now.steps_on_arrival + job.states * job.worlds);
+        const uint8_t action = job.action[now.state];
+        const struct cell cell = job.cells[action][now.world][column];
+        if (cell.result == NONE)
+            return ending(NESSFLURRY_NOT_LEGAL, now.steps);
+        const uint8_t target = job.target[now.state][cell.result];
+        if (target == NONE)
+            return ending(NESSFLURRY_NO_BRANCH, now.steps);
+        now.state = target;
+        now.world = cell.next;
         now.steps++;
-        if (file[head[MARKS] + row[0]] == 1) {
+        if (job.marks[action] == 1) {
             now.passed++;
-            arrive(&now, head, reached);
+            arrive(&now, reached);
         }
     }
 }
 
 /* The next line of as many lamps, the last lamp's kind changing first; false after the last such line. */
-static bool next_line(uint8_t line[], uint32_t lamps, unsigned kinds)
+static bool next_line(uint8_t line[], uint32_t lamps)
 {
     for (uint32_t lamp = lamps; lamp > 0; lamp--) {
-        if (line[lamp - 1] < kinds) {
+        if (line[lamp - 1] < job.kinds) {
             line[lamp - 1]++;
             return true;
         }
@@ -84,16 +77,15 @@ static bool next_line(uint8_t line[], uint32_t lamps, unsigned kinds)
 }
 
 /* The lines of exactly so many lamps from one start: the failure of the first that fails, left in `line`, or Goal. */
-static uint8_t try_lines(const uint8_t *file, size_t file_size, uint8_t start, uint32_t lamps, uint8_t line[],
-                         bool reached[BRUTE_PAIRS])
+static unsigned try_lines(uint8_t start, uint32_t lamps, uint8_t line[], bool reached[BRUTE_PAIRS])
 {
     memset(line, 1, lamps);
     do {
-        const uint8_t code = nessflurry_code(plain_run(file, file_size, start, line, lamps, UINT32_MAX));
-        if (code != NESSFLURRY_GOAL)
-            return code;
-        brute_run(file, file_size, start, line, lamps, reached);
-    } while (next_line(line, lamps, file[KINDS]));
+        const uint64_t run = brute_run(start, line, lamps, reached);
+        expect("each line's run", plain_run(file.bytes, file.size, start, line, lamps, UINT32_MAX), run);
+        if (nessflurry_code(run) != NESSFLURRY_GOAL)
+            return nessflurry_code(run);
+    } while (next_line(line, lamps));
     return NESSFLURRY_GOAL;
 }
 
@@ -105,19 +97,29 @@ static uint32_t count_of(const bool reached[BRUTE_PAIRS])
     return count;
 }
 
-uint32_t brute_check(const uint8_t *file, size_t file_size, uint32_t max_lamps, uint8_t *kind, uint8_t *start,
-                     uint32_t *lamps, uint8_t line[])
+/*
+ * What the check owes: by lamp count, then start, then kinds, the first failing line, which is left in `line`; or the
+ * number of pairs reached. By demand 3 no shortest failing line has more than S·W + 1 lamps; and S·W are enough to
+ * reach every pair.
+ */
+static uint64_t brute_check(uint8_t line[LINE_BYTES])
 {
-    uint16_t head[16];
-    plain_read(file, file_size, head);
     bool reached[BRUTE_PAIRS] = {false};
-    for (*lamps = 0; *lamps <= max_lamps; ++*lamps)
-        for (*start = 0; *start < head[WORLDS]; ++*start) {
-            if (file[head[STARTS] + *start] != 1)
-                continue;
-            *kind = try_lines(file, file_size, *start, *lamps, line, reached);
-            if (*kind != NESSFLURRY_GOAL)
-                return 0;
+    for (uint32_t lamps = 0; lamps <= job.states * job.worlds + 1u; lamps++)
+        for (uint8_t start = 0; start < job.worlds; start++) {
+            const unsigned code = job.starts[start] == 1 ? try_lines(start, lamps, line, reached) : NESSFLURRY_GOAL;
+            if (code != NESSFLURRY_GOAL)
+                return failing(code, start, lamps);
         }
-    return count_of(reached);
+    return ending(NESSFLURRY_GOAL, count_of(reached));
+}
+
+uint64_t expect_as_brute(void)
+{
+    static uint8_t line[LINE_BYTES];
+    const uint64_t wanted = brute_check(line);
+    expect("the check against all lines", check(), wanted);
+    if (nessflurry_code(wanted) != NESSFLURRY_GOAL)
+        expect("the failing line against all lines", memcmp(lent.line, line, nessflurry_count(wanted)) == 0, true);
+    return wanted;
 }

@@ -1,31 +1,26 @@
 /*
- * The check by trying every line up to a length, and the run by following the execution step by step: slow, and with
- * nothing in them that could hide a line. They are for small jobs that the reader does not refuse, and judge
- * plain_check and plain_run.
+ * The run by following the execution step by step, and the check by trying every line up to a length: slow, and with
+ * nothing in them that could hide a line. They take the job at hand from its tables, and judge what plain_run and
+ * plain_check make of its file.
  */
 #ifndef BRUTE_H
 #define BRUTE_H
 
-#include <stdbool.h>
-#include <stddef.h>
-#include <stdint.h>
+#include "job_files/job_files.h"
 
-enum { BRUTE_PAIRS = 65 * 64 };
+enum { BRUTE_PAIRS = (MOST_STATES + 1) * MOST_WORLDS };
 
 /*
  * The execution of the line from the start, in the form of plain_run's answer without a limit. Sets reached[q * W + w]
  * for every pair of program state q and world state w that the execution has at its beginning or just after a step
  * that moves on (01, The check), and leaves the rest.
  */
-uint64_t brute_run(const uint8_t *file, size_t file_size, uint8_t start, const uint8_t *line, size_t lamps,
-                   bool reached[BRUTE_PAIRS]);
+uint64_t brute_run(uint8_t start, const uint8_t *line, size_t lamps, bool reached[BRUTE_PAIRS]);
 
 /*
- * The first failing line of at most max_lamps lamps, by lamp count, then start, then kinds: its failure kind, start,
- * lamp count and the line itself are written, and the answer is 0. If there is none, the answer is the number of pairs
- * reached by all these lines, which is at least 1, and what was written means nothing. `line` has max_lamps + 1 bytes.
+ * The check says what the search over all lines of up to S·W + 1 lamps says, and each of these lines runs as its
+ * execution does. Answers what the search says. The job is a small one, since all these lines are tried.
  */
-uint32_t brute_check(const uint8_t *file, size_t file_size, uint32_t max_lamps, uint8_t *kind, uint8_t *start,
-                     uint32_t *lamps, uint8_t line[]);
+uint64_t expect_as_brute(void);
 
 #endif

@@ -2,10 +2,8 @@
 #ifndef CASES_H
 #define CASES_H
 
-#include "jobs.h"
+#include "job_files/arguments.h"
 #include "plain.h"
-
-#include <stdbool.h>
 
 /* ---- The groups of cases ---- */
 
@@ -18,7 +16,7 @@ void random_cases(void);
 
 /* ---- Comparing ---- */
 
-/* How many answers were compared, and how many of them differed; each of those is printed. */
+/* How many answers were compared, and how many of them differed; the first of those are printed. */
 extern unsigned compared, differing;
 
 void expect(const char *what, uint64_t got, uint64_t wanted);
@@ -30,42 +28,38 @@ uint64_t cabinet(unsigned refusal, unsigned state, uint32_t lamps);
 
 /* ---- The job at hand ---- */
 
-enum { NO_BRANCH = 255 };
+/* Its tables, and its file, in which a case may change bytes. */
+extern struct job job;
+extern struct file file;
 
-extern uint8_t file[JOB_ROOM];
+/* Makes the file anew from the tables. */
+void write_job(void);
 
-extern const uint8_t no_gaps[JOB_PARTS];
-extern const uint8_t plan_g[12];
+/* Bench line G or a variant becomes the job at hand. */
+void take_bench(enum bench_variant variant);
 
-/* Bench line G becomes the job at hand. Answers its size. */
-size_t bench_g(void);
+/* The run from start 0. */
+void expect_run(const char *what, const uint8_t *line, size_t lamps, uint32_t limit, uint64_t wanted);
 
-/* Its run from start 0. */
-void expect_run(const char *what, size_t size, const uint8_t *line, size_t lamps, uint32_t limit, uint64_t wanted);
-
-/* It is refused by every operation, with one number and without a changed byte. */
-void expect_refused_file(const char *what, size_t size, unsigned refusal);
+/* The file is refused by every operation, with one number and without a changed byte. */
+void expect_refused_file(const char *what, unsigned refusal);
 
 /* ---- Its check ---- */
 
 /* What is lent to a check, with LENT_BYTE everywhere before it. */
 extern struct lent {
-    uint8_t line[64 * 64 + 1];
-    uint32_t list[65 * 64];
-    uint64_t words[65];
+    uint8_t line[LINE_BYTES];
+    uint32_t list[LIST_NUMBERS];
+    uint64_t words[WORDS];
 } lent;
 
 /* The check's answer when so much of each is lent. */
-uint64_t check_with(size_t size, size_t line_size, size_t list_size, size_t words_size);
+uint64_t check_with(struct sizes sizes);
 
 /* The check's answer with the least that must be lent, and nothing written behind that or behind the failing line. */
-uint64_t check(size_t size);
+uint64_t check(void);
 
 /* The check is refused, and changes no byte. */
-void expect_refused_check(const char *what, size_t size, size_t line_size, size_t list_size, size_t words_size,
-                          unsigned refusal);
-
-/* The check says what the search over all lines of up to S·W + 1 lamps says. Answers that. */
-uint64_t expect_as_brute(size_t size);
+void expect_refused_check(const char *what, struct sizes sizes, unsigned refusal);
 
 #endif

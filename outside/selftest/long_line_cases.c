@@ -1,16 +1,49 @@
-/* Jobs of the largest size whose pairs are reached on lines of up to 2,048 lamps. */
+/* Jobs of the largest numbers, whose pairs are reached on lines of up to 3,584 lamps. */
 #include "cases.h"
+#include "job_files/families.h"
 
-/* Each pair is reached with one more lamp of kind 15, and from the last of them one more such lamp decides. */
+enum { LOOKING = 7, COUNTED = 8 * LOOKING * MOST_WORLDS }; /* 8 groups of 7 states that look, each in every world */
+
+/* Kind k becomes kind C + 1 - k: counting jobs look for the lowest kinds, and here the highest are to be in the line. */
+static void turn_kinds_round(struct cell cells[MOST_KINDS + 1])
+{
+    for (unsigned low = 1, high = MOST_KINDS; low < high; low++, high--) {
+        const struct cell cell = cells[low];
+        cells[low] = cells[high];
+        cells[high] = cell;
+    }
+}
+
+static void take_counting(uint8_t last)
+{
+    largest_numbers(&job);
+    counting_job(&job, last);
+    for (unsigned action = 0; action < job.actions; action++)
+        for (unsigned world = 0; world < job.worlds; world++)
+            turn_kinds_round(job.cells[action][world]);
+    write_job();
+}
+
+/* The line on which each pair is reached with one more lamp: the states of a group look for kinds 15, 14, ... 9. */
+static void expect_counting_line(void)
+{
+    for (unsigned lamp = 0; lamp < COUNTED; lamp++)
+        expect("a lamp of the counting line", lent.line[lamp], MOST_KINDS - lamp / MOST_WORLDS % LOOKING);
+}
+
+/* From the last of these pairs one more such lamp decides. */
 void long_line_cases(void)
 {
-    size_t size = odometer_job(file, NO_BRANCH);
-    expect("odometer without a last branch", check(size), failing(NESSFLURRY_NO_BRANCH, 0, 2048));
-    for (unsigned lamp = 0; lamp < 2048; lamp++)
-        expect("a lamp of the odometer's line", lent.line[lamp], 15);
-    expect_run("the odometer's line", size, lent.line, 2048, UINT32_MAX, ending(NESSFLURRY_NO_BRANCH, 2 * 2047 + 1));
-    size = odometer_job(file, 0);
-    expect("odometer that begins anew", check(size), ending(NESSFLURRY_GOAL, 2048));
-    size = odometer_job(file, 64);
-    expect("odometer that ends", check(size), ending(NESSFLURRY_GOAL, 2049));
+    take_counting(NONE);
+    expect("counting without a last branch", check(), failing(NESSFLURRY_NO_BRANCH, 0, COUNTED));
+    expect_counting_line();
+    expect_run("the counting line", lent.line, COUNTED, UINT32_MAX, ending(NESSFLURRY_NO_BRANCH, 2 * COUNTED - 1));
+    take_counting(MOST_STATES);
+    expect("counting that ends before a lamp", check(), failing(NESSFLURRY_GOAL_FALSE, 0, COUNTED + 1));
+    expect_counting_line();
+    memset(job.goal, 1, sizeof job.goal);
+    write_job();
+    expect("counting that ends", check(), ending(NESSFLURRY_GOAL, COUNTED + 1));
+    take_counting(0);
+    expect("counting that begins anew", check(), ending(NESSFLURRY_GOAL, COUNTED));
 }

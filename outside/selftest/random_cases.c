@@ -1,7 +1,7 @@
 /* Random jobs: the check against all lines, and runs against their execution, their walks and a cabinet. */
 #include "brute.h"
 #include "cases.h"
-#include "random_job.h"
+#include "small_jobs.h"
 
 #include <stdio.h>
 
@@ -23,12 +23,12 @@ static uint64_t limited(uint64_t answer, uint32_t limit)
 }
 
 /* The run as a chain of walks. */
-static uint64_t run_by_walks(size_t size, uint8_t start, const uint8_t *line, uint32_t lamps)
+static uint64_t run_by_walks(uint8_t start, const uint8_t *line, uint32_t lamps)
 {
-    uint8_t state = file[5], world = start;
+    uint8_t state = job.first, world = start;
     uint32_t steps = 0;
     for (uint32_t passed = 0;; passed++) {
-        const uint64_t end = plain_walk(file, size, state, world, passed < lamps ? line[passed] : 0);
+        const uint64_t end = plain_walk(file.bytes, file.size, state, world, passed < lamps ? line[passed] : 0);
         steps += nessflurry_count(end);
         if (nessflurry_code(end) != NESSFLURRY_ARRIVED)
             return ending(nessflurry_code(end), steps);
@@ -38,48 +38,38 @@ static uint64_t run_by_walks(size_t size, uint8_t start, const uint8_t *line, ui
 }
 
 /* A cabinet that is fed what the tables yield along the line is at the final state after the run's steps if the run is. */
-static void expect_cabinet_follows(size_t size, uint8_t start, const uint8_t *line, uint16_t lamps, uint64_t run)
+static void expect_cabinet_follows(uint8_t start, const uint8_t *line, uint16_t lamps, uint64_t run)
 {
     uint8_t world = start;
-    uint64_t now = plain_begin(file, size, lamps);
+    uint64_t now = plain_begin(file.bytes, file.size, lamps);
     for (uint32_t steps = 0; steps < nessflurry_count(run); steps++) {
         const uint8_t state = nessflurry_state(now);
         const uint16_t left = (uint16_t)nessflurry_count(now);
-        const uint8_t action = nessflurry_state(plain_action(file, size, state, left));
-        const uint8_t *const cell = job_cell(file, action, world, left > 0 ? line[lamps - left] : 0);
-        now = plain_report(file, size, state, left, cell[1]);
+        const uint8_t action = nessflurry_state(plain_action(file.bytes, file.size, state, left));
+        const struct cell cell = job.cells[action][world][left > 0 ? line[lamps - left] : 0];
+        now = plain_report(file.bytes, file.size, state, left, cell.result);
         expect("a report along a run", nessflurry_refusal(now), 0);
-        world = cell[0];
+        world = cell.next;
     }
     const unsigned code = nessflurry_code(run);
-    const uint64_t last = plain_action(file, size, nessflurry_state(now), (uint16_t)nessflurry_count(now));
+    const uint64_t last = plain_action(file.bytes, file.size, nessflurry_state(now), (uint16_t)nessflurry_count(now));
     expect("a cabinet after a run", nessflurry_code(last) == NESSFLURRY_ENDED,
            code == NESSFLURRY_GOAL || code == NESSFLURRY_GOAL_FALSE);
 }
 
-static uint8_t random_start(uint64_t *dice)
-{
-    uint8_t start;
-    do
-        start = (uint8_t)roll(dice, file[1]);
-    while (job_part(file, JOB_STARTS)[start] != 1);
-    return start;
-}
-
-static void random_run(size_t size, uint64_t *dice)
+static void random_run(struct random *random)
 {
     uint8_t line[LONGEST_RUN];
     bool reached[BRUTE_PAIRS];
-    const uint8_t start = random_start(dice);
-    const uint16_t lamps = (uint16_t)roll(dice, LONGEST_RUN + 1);
-    for (unsigned lamp = 0; lamp < lamps; lamp++)
-        line[lamp] = (uint8_t)(1 + roll(dice, file[2]));
-    const uint32_t limit = roll(dice, MOST_LIMIT + 1);
-    const uint64_t run = brute_run(file, size, start, line, lamps, reached);
+    const uint8_t start = marked_start(&job, random);
+    const uint16_t lamps = (uint16_t)below(random, LONGEST_RUN + 1);
+    choose_kinds(&job, random, line, lamps);
+    const uint32_t limit = below(random, MOST_LIMIT + 1);
+    const uint64_t run = brute_run(start, line, lamps, reached);
     const uint64_t wanted = limited(run, limit);
-    expect("a run against its execution", plain_run(file, size, start, line, lamps, limit), wanted);
-    expect("a run against its walks", run_by_walks(size, start, line, lamps), run);
-    expect_cabinet_follows(size, start, line, lamps, run);
+    expect("a run against its execution", plain_run(file.bytes, file.size, start, line, lamps, limit), wanted);
+    expect("a run against its walks", run_by_walks(start, line, lamps), run);
+    expect_cabinet_follows(start, line, lamps, run);
     runs[nessflurry_code(wanted)]++;
 }
 
@@ -107,12 +97,13 @@ static void print_what_was_met(void)
 
 void random_cases(void)
 {
-    uint64_t dice = SEED;
-    for (unsigned job = 0; job < RANDOM_JOBS; job++) {
-        const size_t size = random_job(file, &dice);
-        count_check(expect_as_brute(size));
+    struct random random = {SEED};
+    for (unsigned count = 0; count < RANDOM_JOBS; count++) {
+        small_job(&job, &random);
+        write_job();
+        count_check(expect_as_brute());
         for (unsigned run = 0; run < RUNS_PER_JOB; run++)
-            random_run(size, &dice);
+            random_run(&random);
     }
     print_what_was_met();
 }
