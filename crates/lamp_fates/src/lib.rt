@@ -1,4 +1,4 @@
-// The fates of all pairs at all columns in one table, filled before the search of a check, which then only reads it.
+// The fates of all pairs at all columns in one table, for a check in which walking takes too long: its search then only reads it.
 // A column is filled by doubling: an entry says what so many actions come to, and in a round each entry that stays becomes the
 // entry of the pair at which it stays. So the time grows with the tables and not with the length of the walks.
 ghost use mathlib.Core.Path.{_≡_};

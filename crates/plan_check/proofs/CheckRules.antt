@@ -1,8 +1,9 @@
 -- What the check answers, rule by rule.
-use mathlib.Core.Path.{_≡_, refl, sym, ap, subst, _∙_}
+use mathlib.Core.Path.{_≡_, refl, sym, subst, _∙_}
+use mathlib.Core.Logic.{_≢_}
 use mathlib.Core.Bool.{Bool, true, false, cond, _||_}
 use mathlib.Core.Option.{Option, none, some}
-use mathlib.Core.List.{List, [], _∷_, _++_}
+use mathlib.Core.List.{List}
 use Prim.Native.Nat.{ℕ, _+_, _*_, _/_, _≤_, _<_}
 use native.Mathlib.Nat.{suc-mul}
 use native.Mathlib.Numerals.{add-one}
@@ -10,14 +11,13 @@ use native.Mathlib.Omega.{arith}
 use borrow.Author.Tests.{ltb-true, ltb-false, lt-ltb, le-ltb}
 use lib.Dec.{ltb}
 use lib.ListN.{length}
-use Rattle.lamp_line.specs.Refusals.{Rule, _when_, refusal}
+use Rattle.lamp_line.specs.Refusals.{Rule, refusal}
 use Rattle.job_layout.specs.declared.Job.{Job}
-use Rattle.job_layout.specs.Layout.{head}
 use Rattle.job_layout.specs.JobTables.{tablesOf}
 use Rattle.job_rules.proofs.HeadLaws.{neither}
 use Rattle.job_file.specs.declared.Reading.the-variants as reading
-use Rattle.job_file.specs.Reading.{fileRules, readingOf, Opened}
-use Rattle.job_file.specs.Operations.{bufferShort, listShort, checkRules}
+use Rattle.job_file.specs.Reading.{readingOf, Opened}
+use Rattle.job_file.specs.Operations.{checkRules}
 use Rattle.job_file.proofs.Opening.{file-refused, file-opened}
 use Rattle.job_tables.proofs.Ranges.{states-are, worlds-are}
 use Rattle.lamp_line.specs.Tables.{Tables}
@@ -26,7 +26,10 @@ use Rattle.lamp_line.specs.Refusals.{orRefused, answerBy}
 use Rattle.lamp_line.proofs.Answering.{by-rule, by-no-rule}
 use Rattle.plan_search.specs.declared.Found.{Found}
 use Rattle.plan_search.specs.declared.Found.the-variants as found
-use Rattle.plan_search.specs.Answer.{Finds}
+use Rattle.plan_search.specs.Searching.{Learnable}
+use Rattle.plan_search.specs.declared.Sought.{Sought}
+use Rattle.plan_search.specs.declared.Sought.the-variants as sought
+use Rattle.plan_search.specs.Answer.{CanSearch, Finds, Seeks}
 use Rattle.plan_check.specs.declared.CheckAnswer.{CheckAnswer}
 use Rattle.plan_check.specs.declared.CheckAnswer.the-variants as answer
 use Rattle.plan_check.specs.CheckAnswers.{AnsweredRight, Room, answerOf, Lent, CheckedBy, Checked}
@@ -87,6 +90,34 @@ found-right t (found.Accepted count) line line′ (accepts, same) = (accepts, sa
 found-right t (found.Failed kind start lamps) line line′ names =
     record { right = names .counterexample; within = names .within; others = names .rest }
 
+module _ (t : Tables) (fates : List ℕ) (x : Sought) (line line′ : List ℕ) (seeks : Seeks t fates x line line′) where
+  -- The search came to its end.
+  pub sought-right : (f : Found) → x ≡ sought.Ended f → AnsweredRight t (answerOf f) line line′
+  sought-right f e = found-right t f line line′ (subst (λ (u : Sought). Seeks t fates u line line′) e seeks)
+
+  -- Walking took too long: the table was empty, and the line buffer is as it was.
+  sought-long : x ≡ sought.Long → (length fates ≡ 0) × (line′ ≡ line)
+  sought-long e = subst (λ (u : Sought). Seeks t fates u line line′) e seeks
+
+  -- So it does not with a filled table.
+  pub table-not-long : length fates ≡ 66560 → x ≢ sought.Long
+  table-not-long filled e = omega (arith, sought-long e .0)
+
+  -- An answer found from there is right from the beginning.
+  pub long-right : x ≡ sought.Long → (r : CheckAnswer) (line″ : List ℕ) → AnsweredRight t r line′ line″ → AnsweredRight t r line line″
+  long-right e r line″ right = subst (λ (l : List ℕ). AnsweredRight t r l line″) (sought-long e .1) right
+
+-- A file with room can be searched.
+pub can-search :
+    (s : List ℕ) (j : Job) (fates list words : List ℕ) (line : ℕ) → Room s j line (length list) (length words) →
+    Learnable (tablesOf s) fates → CanSearch s j fates list words
+can-search s j fates list words line room table =
+    record {
+      ready = record { opened = room .opened; table = table };
+      list-room = room .list-room;
+      bits-room = room .words-room;
+    }
+
 module _ (s : List ℕ) (line list words : List ℕ) where
   abbrev lent : Lent
   lent = record { line = line; list = list; words = words }
@@ -112,17 +143,17 @@ module _ (s : List ℕ) (line list words : List ℕ) where
           refused-checked _ (tablesOf s) 13 lent
           (check-by-rules s (length line) (length list) (length words) j opened ∙ rw (le-ltb _ _ enough, short))
 
-      -- What the search found.
-      pub found-checked :
+      -- A right answer.
+      pub right-checked :
           (ltb (length list) (j .states * j .worlds + j .worlds) || ltb (length words) ((j .states * j .worlds + j .worlds + 63) / 64)) ≡ false →
-          (f : Found) (line′ list′ words′ : List ℕ) → Finds (tablesOf s) f line line′ →
-          Checked s (answerOf f) lent (record { line = line′; list = list′; words = words′ })
-      found-checked room f line′ list′ words′ finds =
+          (r : CheckAnswer) (line′ list′ words′ : List ℕ) → AnsweredRight (tablesOf s) r line line′ →
+          Checked s r lent (record { line = line′; list = list′; words = words′ })
+      right-checked room r line′ list′ words′ right =
           let none-applies : refusal (checkRules s (length line) (length list) (length words)) ≡ none =
           check-by-rules s (length line) (length list) (length words) j opened ∙ rw (le-ltb _ _ enough, room) in
-          subst (λ (o : Option ℕ). CheckedBy o (tablesOf s) (answerOf f) lent (record { line = line′; list = list′; words = words′ }))
+          subst (λ (o : Option ℕ). CheckedBy o (tablesOf s) r lent (record { line = line′; list = list′; words = words′ }))
           (sym none-applies)
-          (found-right (tablesOf s) f line line′ finds)
+          right
 
 -- Where no rule applies there is room for the search.
 pub has-room : (s : List ℕ) (j : Job) (line list words : ℕ) → Opened s j → j .states * j .worlds + 1 ≤ line →

@@ -1,32 +1,25 @@
--- What is read from a table that holds the fates: the fate of a pair by its number.
+-- What is learnt of a pair by its number: a walk gives its fate, and so does the entry of a table that holds the fates.
 use mathlib.Core.Path.{_≡_, refl, sym, ap, _∙_}
+use mathlib.Core.Logic.{_≢_, inl, inr}
 use Prim.Native.Nat.{ℕ, _+_, _*_, _-_, _/_, _%_, _≤_, _<_}
+use lib.ListN.{length, getD}
 use native.Mathlib.Nat.{mod-lt, div-lt-iff-lt-mul}
 use native.Mathlib.Omega.{arith}
 use borrow.Author.Tests.{ne-eqb, le-ltb}
 use mathlib.Core.List.{List}
 use Rattle.lamp_line.specs.declared.FailureKind.the-variants.{NotLegal, NoBranch, Circles, GoalFalse}
 use Rattle.lamp_line.specs.declared.Ending.the-variants.{Goal, Failure}
-use Rattle.lamp_line.specs.Tables.{Tables, programState, worldState, columns}
+use Rattle.lamp_line.specs.Tables.{Tables, WellFormed, programState, worldState, columns}
 use Rattle.lamp_line.specs.Run.{Pair, pair, Walk, ended, arrived, lampWalk}
+use Rattle.job_layout.specs.declared.Job.{Job}
+use Rattle.job_layout.specs.JobTables.{tablesOf}
+use Rattle.job_tables.proofs.Ranges.{states-are, worlds-are, kinds-are, well-formed}
 use Rattle.run_laws.proofs.Pairs.{pairNumber}
 use Rattle.run_laws.proofs.Walks.{arrived-in-range}
 use Rattle.lamp_fates.specs.FateTable.{fatePlace, fateEntry, HoldsFates}
 use Rattle.check_laws.specs.Fates.{pairOf, arrives, fateOf, fate}
-use Rattle.plan_search.specs.FateReading.{fateFrom, fateIn}
-use Rattle.plan_search.specs.Searching.{pairs, Ready}
-
--- ---- the places
-
--- The program state of a pair's number.
-pub state-small : (x worlds : ℕ) → 1 ≤ worlds → x < 65 * worlds → x / worlds ≤ 64
-state-small x worlds h l = let q : x / worlds < 65 = div-lt-iff-lt-mul h .1 l in omega arith
-
--- Each place is in the table.
-pub place-in-table :
-    (x worlds column : ℕ) → 1 ≤ worlds → worlds ≤ 64 → x < 65 * worlds → column ≤ 15 →
-    fatePlace (x / worlds) (x % worlds) column < 66560
-place-in-table x worlds column h k l c = omega (arith, state-small x worlds h l, mod-lt x h)
+use Rattle.plan_search.specs.FateReading.{fateFrom}
+use Rattle.plan_search.specs.Searching.{pairs, Learnable, Ready}
 
 -- ---- the numbers in the table
 
@@ -62,35 +55,84 @@ from-entry worlds (ended (Failure Circles) k) h = refl
 from-entry worlds (ended (Failure GoalFalse) k) h = refl
 from-entry worlds (arrived p k) h = from-pair worlds (p .state .0) (p .world .0) (h p k refl)
 
-module _ (t : Tables) (fates : List ℕ) (worlds : ℕ) (ready : Ready t fates worlds) where
-  -- There is a world state.
-  pub worlds-low : 1 ≤ worlds
-  worlds-low = omega (arith, ready .worlds-are, ready .well-formed .worlds-range .0)
+-- ---- pairs by their numbers
 
-  -- There are at most 64.
-  pub worlds-high : worlds ≤ 64
-  worlds-high = omega (arith, ready .worlds-are, ready .well-formed .worlds-range .1)
+module _ (s : List ℕ) (j : Job) (fates : List ℕ) (ready : Ready s j fates) where
+  abbrev t : Tables
+  t = tablesOf s
 
-  -- The state of a pair of the tables.
-  state-range : (x : ℕ) → x < pairs t → x / t .worlds ≤ t .states
-  state-range x h =
-      let l : x / t .worlds < t .states + 1 = div-lt-iff-lt-mul (ready .well-formed .worlds-range .0) .1 h in
-      omega arith
+  worlds-is : j .worlds ≡ tablesOf s .worlds
+  worlds-is = worlds-are s j (ready .opened)
 
-  -- The fate read is the pair's fate.
-  pub fate-read : (x column : ℕ) → x < pairs t → column ≤ t .kinds → fateIn fates worlds x column ≡ fate t x column
-  unfolding fateIn fate pairOf HoldsFates columns
-  fate-read x column h c =
-      rw (ready .worlds-are)
-      (ap (fateFrom (t .worlds))
-      (ready .holds (x / t .worlds) (x % t .worlds) column (state-range x h)
-      (mod-lt x (ready .well-formed .worlds-range .0)) (omega arith))
-      ∙ from-entry (t .worlds) (lampWalk t p column) (λ p′ k e.
-      omega (
-        arith,
-        arrived-in-range t (ready .well-formed) (t .states * t .worlds) p p′ column k (sym e) .world-range,
-        ready .well-formed .worlds-range .1,
-      )))
-    where
-      p : Pair
-      p = pair (programState (x / t .worlds)) (worldState (x % t .worlds))
+  -- The tables are well-formed.
+  pub ready-tables : WellFormed (tablesOf s)
+  ready-tables = well-formed s j (ready .opened)
+
+  -- There are world states.
+  pub some-worlds : 1 ≤ j .worlds
+  some-worlds = omega (arith, worlds-is, ready-tables .worlds-range .0)
+
+  module _ (x column : ℕ) (pair-range : x < pairs (tablesOf s)) (column-range : column ≤ j .kinds) where
+    -- The pair's program state, by the job that the reader answered.
+    pub state-in : x / j .worlds ≤ j .states
+    state-in =
+        let l : x / t .worlds < t .states + 1 = div-lt-iff-lt-mul (ready-tables .worlds-range .0) .1 pair-range in
+        rw worlds-is (omega (arith, states-are s j (ready .opened)))
+
+    -- It is a byte.
+    pub state-small : x / j .worlds ≤ 64
+    state-small = omega (arith, state-in, states-are s j (ready .opened), ready-tables .states-range)
+
+    -- Its world state.
+    pub world-in : x % j .worlds < j .worlds
+    world-in = mod-lt x some-worlds
+
+    -- It is a byte.
+    pub world-small : x % j .worlds < 64
+    world-small = omega (arith, world-in, worlds-is, ready-tables .worlds-range .1)
+
+    -- The column is one of the tables'.
+    pub column-in : column < columns (j .kinds)
+    unfolding columns
+    column-in = omega arith
+
+    -- The pair's place in the table.
+    place-in-table : fatePlace (x / j .worlds) (x % j .worlds) column < 66560
+    place-in-table =
+        omega (arith, state-small, world-small, kinds-are s j (ready .opened), ready-tables .kinds-range .1)
+
+    abbrev p : Pair
+    p = pair (programState (x / j .worlds)) (worldState (x % j .worlds))
+
+    -- The walk from the pair gives its fate.
+    pub walk-learnt : fateOf (j .worlds) (lampWalk (tablesOf s) p column) ≡ fate (tablesOf s) x column
+    unfolding fate pairOf
+    walk-learnt = rw worlds-is refl
+
+    module _ (filled : length fates ≢ 0) where
+      table-is : HoldsFates (tablesOf s) fates × (length fates ≡ 66560)
+      table-is = go (ready .table)
+        where
+          go : Learnable (tablesOf s) fates → HoldsFates (tablesOf s) fates × (length fates ≡ 66560)
+          go (inl e) = absurd (filled e)
+          go (inr h) = h
+
+      -- A table that is not empty has the pair's place.
+      pub place-in : fatePlace (x / j .worlds) (x % j .worlds) column < length fates
+      place-in = omega (arith, place-in-table, table-is .1)
+
+      -- The entry there stands for the pair's fate.
+      pub entry-learnt :
+          fateFrom (j .worlds) (getD fates (fatePlace (x / j .worlds) (x % j .worlds) column) 0) ≡ fate (tablesOf s) x column
+      unfolding HoldsFates columns
+      entry-learnt =
+          ap (fateFrom (j .worlds)) (table-is .0 (x / j .worlds) (x % j .worlds) column
+          (omega (arith, state-in, states-are s j (ready .opened))) (omega (arith, world-in, worlds-is))
+          (omega (arith, kinds-are s j (ready .opened))))
+          ∙ from-entry (j .worlds) (lampWalk t p column) (λ p′ k e.
+          omega (
+            arith,
+            arrived-in-range t ready-tables (t .states * t .worlds) p p′ column k (sym e) .world-range,
+            ready-tables .worlds-range .1,
+          ))
+          ∙ walk-learnt

@@ -6,7 +6,7 @@ use Prim.Native.Nat.{ℕ, _+_, _≤_, _<_}
 use native.Mathlib.Omega.{arith}
 use lib.ListN.{getD, take, set}
 use Rattle.lamp_line.specs.declared.FailureKind.{FailureKind}
-use Rattle.lamp_line.specs.Tables.{Tables, lampColumn, worldState}
+use Rattle.lamp_line.specs.Tables.{Tables, WellFormed, lampColumn, worldState}
 use Rattle.lamp_line.specs.Check.{Counterexample}
 use Rattle.run_laws.proofs.Actions.{lineOf}
 use Rattle.search_laws.proofs.Lex.{_▸_}
@@ -21,10 +21,8 @@ use Rattle.plan_search.specs.declared.Placed.{Placed}
 use Rattle.plan_search.specs.declared.Turn.{Turn}
 use Rattle.plan_search.specs.declared.Turn.the-variants.{Fails, Holds}
 use Rattle.plan_search.specs.ListEntries.{packed, unpacked, entries}
-use Rattle.plan_search.specs.FateReading.{fateIn}
-use Rattle.plan_search.specs.Searching.{pairs, Ready, Searching, Came, After}
+use Rattle.plan_search.specs.Searching.{pairs, Searching, Came, After}
 use Rattle.plan_search.proofs.EntryLaws.{entry-lamp, entries-node}
-use Rattle.plan_search.proofs.FateReads.{fate-read}
 use Rattle.plan_search.proofs.ListLaws.{pairs-few, count-fits, entries-are, entries-grown, listed-placed}
 
 -- A pair that does not fail at the one kind of end fails at no end.
@@ -34,8 +32,7 @@ good-unless-fails t x h e f l (kind, g, n) =
     h kind (rw zero-end at g)
 
 module _
-    (t : Tables) (fates : List ℕ) (worlds : ℕ) (ready : Ready t fates worlds) (list words : List ℕ) (n h k : ℕ)
-    (searching : Searching t list words n h k) where
+    (t : Tables) (wf : WellFormed t) (list words : List ℕ) (n h k : ℕ) (searching : Searching t list words n h k) where
   abbrev E : List Entry
   E = entries (take n list)
 
@@ -60,84 +57,80 @@ module _
   pub tried-range : unpacked (getD list h 0) .pair < pairs t
   tried-range =
       subst (λ (y : ℕ). y < pairs t) node-is
-      (reach-below (graph t) (pairs t) (start-bound t (ready .well-formed)) (to-bound t (ready .well-formed))
+      (reach-below (graph t) (pairs t) (start-bound t wf) (to-bound t wf)
       (searching .at .inv .real h (omega (arith, tried-in, entries-are t list words n (searching .listed)))))
 
   module _ (high : k ≤ t .kinds) where
     kind-is : Kind (t .kinds) k
     kind-is = record { low = searching .low; high = high }
 
-    -- The fate that is read is that of the entry at the lamp.
-    fate-is : (v : Fate) → fateIn fates worlds x k ≡ v → fate t (node E h) (lampColumn t k) ≡ v
+    -- The fate that is learnt is that of the entry at the lamp.
+    fate-is : (v : Fate) → fate t x k ≡ v → fate t (node E h) (lampColumn t k) ≡ v
     unfolding lampColumn
-    fate-is v e =
-        ap (λ (y : ℕ). fate t y k) node-is ∙ sym (fate-read t fates worlds ready x k tried-range high) ∙ e
+    fate-is v e = ap (λ (y : ℕ). fate t y k) node-is ∙ e
 
     -- The run ends there with the goal true.
     pub turn-succeeds :
-        fateIn fates worlds (unpacked (getD list h 0) .pair) k ≡ succeeds → After t list n h k (Holds n) list words
+        fate t (unpacked (getD list h 0) .pair) k ≡ succeeds → Searching t list words n h (k + 1)
     turn-succeeds e =
         record {
           listed = searching .listed;
-          at = fate-succeeds t (ready .well-formed) E h k (searching .at) (fate-is succeeds e);
+          at = fate-succeeds t wf E h k (searching .at) (fate-is succeeds e);
           low = omega arith;
         }
 
     -- It fails there.
     pub turn-fails :
-        (kind : FailureKind) → fateIn fates worlds (unpacked (getD list h 0) .pair) k ≡ fails kind →
+        (kind : FailureKind) → fate t (unpacked (getD list h 0) .pair) k ≡ fails kind →
         Counterexample t kind (worldState (start (entries (take n list)) h)) (lineOf 0 (path (entries (take n list)) h ▸ k))
     turn-fails kind e =
-        fate-fails t (ready .well-formed) E h k (searching .at) kind-is kind (fate-is (fails kind) e)
+        fate-fails t wf E h k (searching .at) kind-is kind (fate-is (fails kind) e)
 
     -- It arrives with the pair y, which is then visited.
-    module _ (y : ℕ) (arrival : fateIn fates worlds (unpacked (getD list h 0) .pair) k ≡ arrives y) where
+    module _ (y : ℕ) (arrival : fate t (unpacked (getD list h 0) .pair) k ≡ arrives y) where
       -- It is a pair of the tables.
       pub arrival-range : y < pairs t
-      arrival-range = to-bound t (ready .well-formed) (node E h) k y (fate-is (arrives y) arrival)
+      arrival-range = to-bound t wf (node E h) k y (fate-is (arrives y) arrival)
 
       abbrev p : Placed
       p = record { pair = y; parent = h; kind = k }
 
-      end-read : fateIn fates worlds y 0 ≡ fate t y 0
-      end-read = fate-read t fates worlds ready y 0 arrival-range (omega arith)
-
       -- What visiting it comes to is what the turn comes to.
       pub turn-came :
           (r : Turn) (list′ words′ : List ℕ) →
-          Came fates worlds list words n (record { pair = y; parent = h; kind = k }) r list′ words′ →
+          Came t list words n (record { pair = y; parent = h; kind = k }) r list′ words′ →
           After t list n h k r list′ words′
       turn-came (Fails kind) list′ words′ (there, same) = (
-        new-bad t (ready .well-formed) E h k (searching .at) kind-is y (fate-is (arrives y) arrival)
+        new-bad t wf E h k (searching .at) kind-is y (fate-is (arrives y) arrival)
             (λ i l. searching .listed .new y arrival-range (there .unmarked) i
             (omega (arith, entries-are t list words n (searching .listed))))
-            0 kind (bad-at-one-end t y kind (sym end-read ∙ there .fails-so)),
+            0 kind (bad-at-one-end t y kind (there .fails-so)),
         same,
       )
-      turn-came (Holds m) list′ words′ (inl w) =
+      turn-came (Holds m left) list′ words′ (inl w) =
           rw (w .count, w .same-list, w .same-words)
           (let (j, l, is) = searching .listed .met y arrival-range (w .marked) in
           record {
             listed = searching .listed;
-            at = fate-met t (ready .well-formed) E h k (searching .at) y j (fate-is (arrives y) arrival)
+            at = fate-met t wf E h k (searching .at) y j (fate-is (arrives y) arrival)
                 (omega (arith, entries-are t list words n (searching .listed))) is;
             low = omega arith;
           })
-      turn-came (Holds m) list′ words′ (inr w) =
+      turn-came (Holds m left) list′ words′ (inr w) =
           rw (w .count, w .stored)
           (record {
             listed = listed-placed t list words n (searching .listed) p words′ few arrival-range small (w .unmarked) (w .only)
                 (λ l. tried-in);
             at = subst (λ (F : List Entry). At (graph t) F h (k + 1)) (sym table)
-                (new-good t (ready .well-formed) E h k (searching .at) kind-is y (fate-is (arrives y) arrival)
+                (new-good t wf E h k (searching .at) kind-is y (fate-is (arrives y) arrival)
                 (λ i l. searching .listed .new y arrival-range (w .unmarked) i
                 (omega (arith, entries-are t list words n (searching .listed))))
-                (good-unless-fails t y (λ kind e. w .good kind (end-read ∙ e))));
+                (good-unless-fails t y (w .good)));
             low = omega arith;
           })
         where
           few : pairs t ≤ 4160
-          few = pairs-few t fates worlds ready
+          few = pairs-few t wf
 
           small : h < 8192
           small = omega (arith, tried-below, few)

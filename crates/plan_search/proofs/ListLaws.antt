@@ -5,11 +5,10 @@ use mathlib.Core.Bool.{true, false}
 use mathlib.Core.List.{List}
 use Prim.Native.Nat.{ℕ, _+_, _*_, _≤_, _<_}
 use native.Mathlib.Decide.{ℕ-discrete}
-use native.Mathlib.Nat.{mul-le-mul-right}
 use native.Mathlib.Omega.{arith}
 use lib.ListN.{length, getD, take, set, length-set}
 use lib.Seq.{getD-set-same, getD-set-other}
-use Rattle.lamp_line.specs.Tables.{Tables}
+use Rattle.lamp_line.specs.Tables.{Tables, WellFormed}
 use Rattle.lamp_line.proofs.Products.{product-le}
 use Rattle.pair_bits.specs.Bits.{bitAt, Cleared, OnlySet}
 use Rattle.pair_bits.proofs.Counts.{count-le, count-cleared, count-one, count-lt}
@@ -17,27 +16,15 @@ use Rattle.search_laws.proofs.Table.{Entry, node}
 use Rattle.search_laws.proofs.Grown.{below-or-last, grown, grown-new, still-at}
 use Rattle.plan_search.specs.declared.Placed.{Placed}
 use Rattle.plan_search.specs.ListEntries.{packed, unpacked, entryOf, entries}
-use Rattle.plan_search.specs.Searching.{pairs, Ready, Listed}
+use Rattle.plan_search.specs.Searching.{pairs, Listed}
 use Rattle.plan_search.proofs.EntryLaws.{unpacked-packed, entry-node, taken-length, entries-stored}
 
 -- ---- how many pairs there are
 
-module _ (t : Tables) (fates : List ℕ) (worlds : ℕ) (ready : Ready t fates worlds) where
-  -- At most 65 times 64.
-  pub pairs-few : pairs t ≤ 4160
-  pairs-few =
-      product-le 65 64 (t .states + 1) (t .worlds) (omega (arith, ready .well-formed .states-range))
-      (ready .well-formed .worlds-range .1)
-
-  -- The number of a pair by the world states.
-  pub pair-low : (x : ℕ) → x < pairs t → x < 65 * worlds
-  pair-low x h =
-      omega (
-        arith,
-        h,
-        ap (λ (w : ℕ). 65 * w) (ready .worlds-are),
-        mul-le-mul-right {m = t .states + 1} {n = 65} (t .worlds) (omega (arith, ready .well-formed .states-range)),
-      )
+-- At most 65 times 64.
+pub pairs-few : (t : Tables) → WellFormed t → pairs t ≤ 4160
+pairs-few t wf =
+    product-le 65 64 (t .states + 1) (t .worlds) (omega (arith, wf .states-range)) (wf .worlds-range .1)
 
 -- ---- the list
 

@@ -18,25 +18,29 @@ use Rattle.run_laws.proofs.Actions.{lineOf}
 use Rattle.search_laws.proofs.Lex.{_▸_}
 use Rattle.search_laws.proofs.Table.{start, path}
 use Rattle.plan_search.specs.declared.Halted.{Halted}
-use Rattle.plan_search.specs.declared.Halted.the-variants.{Through, AtStart, AtLamp}
+use Rattle.plan_search.specs.declared.Halted.the-variants.{Through, AtStart, AtLamp, Long}
 use Rattle.plan_search.specs.ListEntries.{entries}
 use Rattle.plan_search.specs.Answer.{Searched, LampFails, Names, Written}
 use Rattle.plan_search.proofs.LineLoops.{one-longer}
 
 -- ---- where the search ended
 
-module _ (t : Tables) (r : Halted) (list : List ℕ) (searched : Searched t r list) where
+module _ (t : Tables) (fates : List ℕ) (r : Halted) (list : List ℕ) (searched : Searched t fates r list) where
   -- No line fails.
   pub halted-through : (count : ℕ) → r ≡ Through count → Accepts t count
-  halted-through count e = subst (λ (u : Halted). Searched t u list) e searched
+  halted-through count e = subst (λ (u : Halted). Searched t fates u list) e searched
 
   -- The empty line fails from a start.
   pub halted-start : (kind : FailureKind) (w : WorldState) → r ≡ AtStart kind w → Counterexample t kind w (lineOf 0 [])
-  halted-start kind w e = subst (λ (u : Halted). Searched t u list) e searched
+  halted-start kind w e = subst (λ (u : Halted). Searched t fates u list) e searched
 
   -- The line of a placed pair with one lamp more fails.
   pub halted-lamp : (kind : FailureKind) (n h k : ℕ) → r ≡ AtLamp kind n h k → LampFails t list n h k kind
-  halted-lamp kind n h k e = subst (λ (u : Halted). Searched t u list) e searched
+  halted-lamp kind n h k e = subst (λ (u : Halted). Searched t fates u list) e searched
+
+  -- Walking took too long.
+  pub halted-long : r ≡ Long → length fates ≡ 0
+  halted-long e = subst (λ (u : Halted). Searched t fates u list) e searched
 
 -- ---- the line
 

@@ -1,17 +1,20 @@
 -- The loops of the search over the placed pairs and the kinds of lamps, and where they end.
 use mathlib.Core.Path.{_≡_, refl, sym, ap₂, subst, _∙_}
+use mathlib.Core.Bool.{Bool, true, false, _&&_}
 use mathlib.Core.List.{List, []}
 use Prim.Native.Nat.{ℕ, _+_, _*_, _≤_, _<_}
 use native.Mathlib.Omega.{arith}
+use borrow.Author.Tests.{eqb-true}
+use lib.Dec.{eqb}
 use lib.ListN.{length, take}
 use lib.Seq.{length-take-le, getD-take}
 use Rattle.lamp_line.specs.declared.FailureKind.{FailureKind}
 use Rattle.lamp_line.specs.declared.WorldState.{WorldState}
-use Rattle.lamp_line.specs.Tables.{Tables}
+use Rattle.lamp_line.specs.Tables.{Tables, WellFormed}
 use Rattle.lamp_line.specs.Check.{Counterexample, Accepts}
 use Rattle.job_layout.specs.declared.Job.{Job}
 use Rattle.job_layout.specs.JobTables.{tablesOf}
-use Rattle.job_tables.proofs.Ranges.{states-are, worlds-are, kinds-are, well-formed}
+use Rattle.job_tables.proofs.Ranges.{states-are, worlds-are, kinds-are}
 use Rattle.pair_bits.specs.Bits.{countTo, Cleared}
 use Rattle.run_laws.proofs.Actions.{lineOf}
 use Rattle.search_laws.proofs.Turns.{At, turn-next}
@@ -22,8 +25,9 @@ use Rattle.plan_search.specs.declared.Starts.the-variants as starts
 use Rattle.plan_search.specs.declared.Turn.{Turn}
 use Rattle.plan_search.specs.declared.Turn.the-variants.{Fails, Holds}
 use Rattle.plan_search.specs.ListEntries.{entries, Chained}
-use Rattle.plan_search.specs.Searching.{pairs, Ready, Listed, Searching, After, AfterStarts}
+use Rattle.plan_search.specs.Searching.{pairs, Listed, Searching, After, AfterStarts}
 use Rattle.plan_search.specs.Answer.{CanSearch, LampFails}
+use Rattle.plan_search.proofs.FateReads.{ready-tables}
 use Rattle.plan_search.proofs.ListLaws.{pairs-few, listed-empty, count-fits, entries-are}
 use Rattle.plan_search.proofs.LampTurns.{tried-in}
 
@@ -39,28 +43,22 @@ pub record Trying (t : Tables) (list₀ words₀ list words : List ℕ) (n h k :
 -- ---- the beginning
 
 module _ (s : List ℕ) (j : Job) (fates list words : List ℕ) (can : CanSearch s j fates list words) where
-  -- The table holds the fates of the file's tables.
-  pub ready-for : Ready (tablesOf s) fates (j .worlds)
-  ready-for =
-      record {
-        well-formed = well-formed s j (can .opened);
-        holds = can .holds;
-        long = can .long;
-        worlds-are = worlds-are s j (can .opened);
-      }
+  -- The file's tables are well-formed.
+  pub can-tables : WellFormed (tablesOf s)
+  can-tables = ready-tables s j fates (can .ready)
 
   -- The number of pairs by the job that the reader answered.
   pub pairs-are : (j .states + 1) * j .worlds ≡ pairs (tablesOf s)
   pairs-are =
-      ap₂ (λ (q w : ℕ). (q + 1) * w) (states-are s j (can .opened)) (worlds-are s j (can .opened))
+      ap₂ (λ (q w : ℕ). (q + 1) * w) (states-are s j (can .ready .opened)) (worlds-are s j (can .ready .opened))
 
   -- They are few.
   pub job-pairs-few : (j .states + 1) * j .worlds ≤ 4160
-  job-pairs-few = rw pairs-are (pairs-few (tablesOf s) fates (j .worlds) ready-for)
+  job-pairs-few = rw pairs-are (pairs-few (tablesOf s) can-tables)
 
   -- The number of kinds.
   pub job-kinds : j .kinds ≡ tablesOf s .kinds
-  job-kinds = kinds-are s j (can .opened)
+  job-kinds = kinds-are s j (can .ready .opened)
 
   -- With the bits cleared the list is empty.
   pub search-begins :
@@ -76,8 +74,8 @@ module _ (t : Tables) (r : Starts) (list words : List ℕ) (after : AfterStarts 
   starts-failed kind w e = subst (λ (u : Starts). AfterStarts t u list words) e after
 
   -- The first placed pair is tried with the first kind.
-  pub starts-held : (m : ℕ) → r ≡ starts.Holds m → Trying t list words list words m 0 1
-  starts-held m e =
+  pub starts-held : (m left : ℕ) → r ≡ starts.Holds m left → Trying t list words list words m 0 1
+  starts-held m left e =
       record {
         searching = subst (λ (u : Starts). AfterStarts t u list words) e after;
         high = omega arith;
@@ -85,10 +83,17 @@ module _ (t : Tables) (r : Starts) (list words : List ℕ) (after : AfterStarts 
         words-length = refl;
       }
 
+-- Walking is given up only where the table is empty.
+pub given-up : (fates : List ℕ) (spent : Bool) → (eqb (length fates) 0 && spent) ≡ true → length fates ≡ 0
+given-up fates spent e = eqb-true (length fates) 0 (first (eqb (length fates) 0) e)
+  where
+    first : (a : Bool) → (a && spent) ≡ true → a ≡ true
+    first true e = refl
+    first false e = e
+
 -- ---- a turn
 
-module _ (t : Tables) (fates : List ℕ) (worlds : ℕ) (ready : Ready t fates worlds) (list words : List ℕ) (n h k : ℕ)
-    (searching : Searching t list words n h k) where
+module _ (t : Tables) (wf : WellFormed t) (list words : List ℕ) (n h k : ℕ) (searching : Searching t list words n h k) where
   -- The list of the pairs placed is chained.
   chained : Chained (take n list)
   chained i l =
@@ -109,15 +114,15 @@ module _ (t : Tables) (fates : List ℕ) (worlds : ℕ) (ready : Ready t fates w
         rw same
         (record {
           counterexample = fails;
-          placed = tried-in t fates worlds ready list words n h k searching;
-          few = omega (arith, count-fits t list words n (searching .listed), pairs-few t fates worlds ready);
+          placed = tried-in t wf list words n h k searching;
+          few = omega (arith, count-fits t list words n (searching .listed), pairs-few t wf);
           within = omega (arith, count-fits t list words n (searching .listed), searching .listed .list-room);
           chained = chained;
         })
 
     -- The next kind is tried.
-    pub lamp-held : (m : ℕ) → r ≡ Holds m → Searching t list′ words′ m h (k + 1)
-    lamp-held m e = subst (λ (u : Turn). After t list n h k u list′ words′) e after
+    pub lamp-held : (m left : ℕ) → r ≡ Holds m left → Searching t list′ words′ m h (k + 1)
+    lamp-held m left e = subst (λ (u : Turn). After t list n h k u list′ words′) e after
 
   -- All kinds were tried.
   module _ (through : k ≡ t .kinds + 1) where
@@ -139,4 +144,4 @@ module _ (t : Tables) (fates : List ℕ) (worlds : ℕ) (ready : Ready t fates w
     all-tried l count e =
         let size = entries-are t list words n (searching .listed) in
         subst (Accepts t) (size ∙ sym (e ∙ searching .listed .counted))
-        (table-right t (ready .well-formed) (entries (take n list)) h at-end (omega arith))
+        (table-right t wf (entries (take n list)) h at-end (omega arith))

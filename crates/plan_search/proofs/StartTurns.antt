@@ -3,12 +3,12 @@ use mathlib.Core.Path.{_≡_, refl, sym, ap, subst, _∙_}
 use mathlib.Core.Logic.{_≢_, inl, inr}
 use mathlib.Core.Bool.{true, false}
 use mathlib.Core.List.{List, []}
-use Prim.Native.Nat.{ℕ, _+_, _*_, _≤_, _<_}
-use native.Mathlib.Nat.{mul-one}
+use Prim.Native.Nat.{ℕ, _+_, _≤_, _<_}
 use native.Mathlib.Omega.{arith}
 use lib.ListN.{length, take, set}
 use Rattle.lamp_line.specs.declared.FailureKind.{FailureKind}
-use Rattle.lamp_line.specs.Tables.{Tables, worldState}
+use Rattle.lamp_line.specs.Tables.{Tables, WellFormed, worldState}
+use Rattle.lamp_line.specs.Run.{pair}
 use Rattle.lamp_line.specs.Check.{Counterexample}
 use Rattle.job_layout.specs.declared.Job.{Job}
 use Rattle.job_layout.specs.JobTables.{tablesOf}
@@ -26,18 +26,15 @@ use Rattle.plan_search.specs.declared.Placed.{Placed}
 use Rattle.plan_search.specs.declared.Turn.{Turn}
 use Rattle.plan_search.specs.declared.Turn.the-variants.{Fails, Holds}
 use Rattle.plan_search.specs.ListEntries.{packed, entriesFrom, entries}
-use Rattle.plan_search.specs.FateReading.{fateIn}
-use Rattle.plan_search.specs.Searching.{pairs, Ready, Listed, Starting, Searching, Came, AfterStart}
+use Rattle.plan_search.specs.Searching.{pairs, Listed, Starting, Searching, Came, AfterStart}
 use Rattle.plan_search.proofs.EntryLaws.{entry-start}
-use Rattle.plan_search.proofs.FateReads.{fate-read}
 use Rattle.plan_search.proofs.ListLaws.{pairs-few, entries-are, entries-grown, listed-placed}
 use Rattle.plan_search.proofs.LampTurns.{good-unless-fails}
 
 -- The number of a start's pair, by the job that the reader answered.
 pub start-node-is :
-    (s : List ℕ) (j : Job) → Opened s j → (w : ℕ) → j .first .0 * j .worlds + w * 1 ≡ startNode (tablesOf s) w
-unfolding pairNumber
-start-node-is s j opened w = rw (first-is s j opened, worlds-are s j opened, mul-one w)
+    (s : List ℕ) (j : Job) → Opened s j → (w : ℕ) → pairNumber (j .worlds) (pair (j .first) (worldState w)) ≡ startNode (tablesOf s) w
+start-node-is s j opened w = rw (first-is s j opened, worlds-are s j opened)
 
 -- ---- the loop
 
@@ -56,8 +53,8 @@ module _ (t : Tables) (s : ℕ) (r : Turn) (list words : List ℕ) (after : Afte
   start-failed kind e = subst (λ (u : Turn). AfterStart t s u list words) e after
 
   -- The next start comes.
-  pub start-held : (m : ℕ) → r ≡ Holds m → Starting t list words m (s + 1)
-  start-held m e = subst (λ (u : Turn). AfterStart t s u list words) e after
+  pub start-held : (m left : ℕ) → r ≡ Holds m left → Starting t list words m (s + 1)
+  start-held m left e = subst (λ (u : Turn). AfterStart t s u list words) e after
 
 -- ---- one start
 
@@ -66,15 +63,14 @@ pub starting-empty : (t : Tables) (list words : List ℕ) → Listed t list word
 unfolding entries entriesFrom
 starting-empty t list words listed = record { listed = listed; begun = begin-empty (graph t) }
 
-module _ (t : Tables) (fates : List ℕ) (worlds : ℕ) (ready : Ready t fates worlds) (list words : List ℕ) (n s : ℕ)
-    (starting : Starting t list words n s) where
+module _ (t : Tables) (wf : WellFormed t) (list words : List ℕ) (n s : ℕ) (starting : Starting t list words n s) where
   abbrev E : List Entry
   E = entries (take n list)
 
   -- The world state is not marked.
-  pub start-skipped : t .start (worldState s) ≡ false → AfterStart t s (Holds n) list words
+  pub start-skipped : t .start (worldState s) ≡ false → Starting t list words n (s + 1)
   start-skipped e =
-      record { listed = starting .listed; begun = start-unmarked t (ready .well-formed) E s (starting .begun) e }
+      record { listed = starting .listed; begun = start-unmarked t wf E s (starting .begun) e }
 
   -- All starts are taken.
   pub starts-taken : t .worlds ≤ s → s ≤ t .worlds → Searching t list words n 0 1
@@ -82,7 +78,7 @@ module _ (t : Tables) (fates : List ℕ) (worlds : ℕ) (ready : Ready t fates w
       let is : s ≡ t .worlds = omega arith in
       record {
         listed = starting .listed;
-        at = starts-done t (ready .well-formed) E (subst (Begun (graph t) E) is (starting .begun));
+        at = starts-done t wf E (subst (Begun (graph t) E) is (starting .begun));
         low = omega arith;
       }
 
@@ -90,44 +86,44 @@ module _ (t : Tables) (fates : List ℕ) (worlds : ℕ) (ready : Ready t fates w
   module _ (y : ℕ) (is : y ≡ startNode t s) (marked : t .start (worldState s) ≡ true) where
     -- It is a pair of the tables.
     pub start-range : y < pairs t
-    start-range = start-bound t (ready .well-formed) s y (marked, is)
+    start-range = start-bound t wf s y (marked, is)
 
     abbrev p : Placed
     p = record { pair = y; parent = s; kind = 0 }
 
-    end-read : fateIn fates worlds y 0 ≡ fate t (startNode t s) 0
-    end-read = fate-read t fates worlds ready y 0 start-range (omega arith) ∙ ap (λ (x : ℕ). fate t x 0) is
+    end-is : fate t y 0 ≡ fate t (startNode t s) 0
+    end-is = ap (λ (x : ℕ). fate t x 0) is
 
     -- Its pair is new, since each start has a pair of its own.
     not-met : (j : ℕ) → j < n → node E j ≢ y
     not-met j l e =
         let l′ : j < length E = omega (arith, entries-are t list words n (starting .listed)) in
         let (m, own) = starting .begun .marked j l′ in
-        let same = plain t (ready .well-formed) .start-own (start E j) s y (m, sym e ∙ own) (marked, is) in
+        let same = plain t wf .start-own (start E j) s y (m, sym e ∙ own) (marked, is) in
         omega (arith, starting .begun .taken j l′)
 
     -- What visiting it comes to is what the start comes to.
     pub start-came :
         s < 8192 → (r : Turn) (list′ words′ : List ℕ) →
-        Came fates worlds list words n (record { pair = y; parent = s; kind = 0 }) r list′ words′ → AfterStart t s r list′ words′
+        Came t list words n (record { pair = y; parent = s; kind = 0 }) r list′ words′ → AfterStart t s r list′ words′
     start-came small (Fails kind) list′ words′ (there, same) =
-        start-bad t (ready .well-formed) E s (starting .begun) 0 kind marked
-        (bad-at-one-end t (startNode t s) kind (sym end-read ∙ there .fails-so))
-    start-came small (Holds m) list′ words′ (inl w) =
+        start-bad t wf E s (starting .begun) 0 kind marked
+        (bad-at-one-end t (startNode t s) kind (sym end-is ∙ there .fails-so))
+    start-came small (Holds m left) list′ words′ (inl w) =
         let (j, l, e) = starting .listed .met y start-range (w .marked) in
         absurd (not-met j l e)
-    start-came small (Holds m) list′ words′ (inr w) =
+    start-came small (Holds m left) list′ words′ (inr w) =
         rw (w .count, w .stored)
         (record {
           listed = listed-placed t list words n (starting .listed) p words′ few start-range small (w .unmarked) (w .only)
               (λ l. absurd (omega arith));
           begun = subst (λ (F : List Entry). Begun (graph t) F (s + 1)) (sym table)
-              (start-good t (ready .well-formed) E s (starting .begun) marked
-              (good-unless-fails t (startNode t s) (λ kind e. w .good kind (end-read ∙ e))));
+              (start-good t wf E s (starting .begun) marked
+              (good-unless-fails t (startNode t s) (λ kind e. w .good kind (end-is ∙ e))));
         })
       where
         few : pairs t ≤ 4160
-        few = pairs-few t fates worlds ready
+        few = pairs-few t wf
 
         table : entries (take (n + 1) (set list n (packed p))) ≡ grown E (entry (startNode t s) s [])
         table =

@@ -8,24 +8,22 @@ use Rattle.lamp_line.specs.declared.WorldState.{WorldState}
 use Rattle.lamp_line.specs.Tables.{Tables, worldState}
 use Rattle.lamp_line.specs.Check.{Counterexample, Accepts}
 use Rattle.job_layout.specs.declared.Job.{Job}
-use Rattle.job_layout.specs.JobTables.{tablesOf}
-use Rattle.job_file.specs.Reading.{Opened}
-use Rattle.lamp_fates.specs.FateTable.{HoldsFates}
 use Rattle.run_laws.proofs.Actions.{lineOf}
 use Rattle.search_laws.proofs.Lex.{_▸_}
 use Rattle.search_laws.proofs.Table.{start, path}
 use Rattle.plan_search.specs.declared.Halted.{Halted}
-use Rattle.plan_search.specs.declared.Halted.the-variants.{Through, AtStart, AtLamp}
+use Rattle.plan_search.specs.declared.Halted.the-variants as halted
 use Rattle.plan_search.specs.declared.Found.{Found}
 use Rattle.plan_search.specs.declared.Found.the-variants.{Accepted, Failed}
+use Rattle.plan_search.specs.declared.Sought.{Sought}
+use Rattle.plan_search.specs.declared.Sought.the-variants as sought
 use Rattle.plan_search.specs.ListEntries.{entries, Chained}
+use Rattle.plan_search.specs.Searching.{Ready}
 
--- The file is not refused, the table holds its fates, and there is room for all pairs: refusal 13, "working list under (S+1)·W
--- 32-bit numbers, or words too few for (S+1)·W bits", does not apply.
+-- The fates can be learnt, and there is room for all pairs: refusal 13, "working list under (S+1)·W 32-bit numbers, or words too
+-- few for (S+1)·W bits", does not apply.
 pub record CanSearch (s : List ℕ) (j : Job) (fates list words : List ℕ) : Type 0 where
-  pub opened : Opened s j
-  pub holds : HoldsFates (tablesOf s) fates
-  pub long : length fates ≡ 66560
+  pub ready : Ready s j fates
   pub list-room : (j .states + 1) * j .worlds ≤ length list
   pub bits-room : (j .states + 1) * j .worlds ≤ length words * 64
 
@@ -42,6 +40,11 @@ abbrev pub Finds : Tables → Found → List ℕ → List ℕ → Type 0
 Finds t (Accepted count) line line′ = Accepts t count × (line′ ≡ line)
 Finds t (Failed kind start lamps) line line′ = Names t kind start lamps line line′
 
+-- Walking takes too long only where the table of fates is empty. Then nothing is said of the plan, and the line buffer is unchanged.
+abbrev pub Seeks : Tables → List ℕ → Sought → List ℕ → List ℕ → Type 0
+Seeks t fates (sought.Ended found) line line′ = Finds t found line line′
+Seeks t fates sought.Long line line′ = (length fates ≡ 0) × (line′ ≡ line)
+
 -- ---- where the search ends
 
 -- The line of the placed pair h, of n, with a lamp of the kind k more is the counterexample.
@@ -54,10 +57,11 @@ pub record LampFails (t : Tables) (list : List ℕ) (n h k : ℕ) (kind : Failur
   pub chained : Chained (take n list)
 
 -- What is known where the search ends.
-abbrev pub Searched : Tables → Halted → List ℕ → Type 0
-Searched t (Through count) list = Accepts t count
-Searched t (AtStart kind start) list = Counterexample t kind start (lineOf 0 [])
-Searched t (AtLamp kind n h k) list = LampFails t list n h k kind
+abbrev pub Searched : Tables → List ℕ → Halted → List ℕ → Type 0
+Searched t fates (halted.Through count) list = Accepts t count
+Searched t fates (halted.AtStart kind start) list = Counterexample t kind start (lineOf 0 [])
+Searched t fates (halted.AtLamp kind n h k) list = LampFails t list n h k kind
+Searched t fates halted.Long list = length fates ≡ 0
 
 -- The lamps of the placed pair and one more stand at the front of the buffer, and its start is answered.
 pub record Written (list : List ℕ) (h k lamps : ℕ) (line : List ℕ) (r : WorldState) (line′ : List ℕ) : Type 0 where

@@ -6,8 +6,11 @@ use mathlib.Core.List.{List, []}
 use Prim.Native.Nat.{ℕ, _+_, _*_, _≤_, _<_}
 use lib.ListN.{length, getD, take, set}
 use Rattle.lamp_line.specs.declared.FailureKind.{FailureKind}
-use Rattle.lamp_line.specs.Tables.{Tables, WellFormed, worldState}
+use Rattle.lamp_line.specs.Tables.{Tables, worldState}
 use Rattle.lamp_line.specs.Check.{Counterexample}
+use Rattle.job_layout.specs.declared.Job.{Job}
+use Rattle.job_layout.specs.JobTables.{tablesOf}
+use Rattle.job_file.specs.Reading.{Opened}
 use Rattle.lamp_fates.specs.FateTable.{HoldsFates}
 use Rattle.pair_bits.specs.Bits.{bitAt, countTo, OnlySet}
 use Rattle.run_laws.proofs.Actions.{lineOf}
@@ -15,7 +18,7 @@ use Rattle.search_laws.proofs.Lex.{_▸_}
 use Rattle.search_laws.proofs.Table.{node, start, path}
 use Rattle.search_laws.proofs.Turns.{At}
 use Rattle.search_laws.proofs.Begin.{Begun}
-use Rattle.check_laws.specs.Fates.{fails}
+use Rattle.check_laws.specs.Fates.{fails, fate}
 use Rattle.check_laws.proofs.TableGraph.{graph}
 use Rattle.plan_search.specs.declared.Placed.{Placed}
 use Rattle.plan_search.specs.declared.Starts.{Starts}
@@ -23,18 +26,19 @@ use Rattle.plan_search.specs.declared.Starts.the-variants as starts
 use Rattle.plan_search.specs.declared.Turn.{Turn}
 use Rattle.plan_search.specs.declared.Turn.the-variants.{Fails, Holds}
 use Rattle.plan_search.specs.ListEntries.{packed, unpacked, entries}
-use Rattle.plan_search.specs.FateReading.{fateIn}
 
 -- How many pairs the tables have.
 abbrev pub pairs : Tables → ℕ
 pairs t = (t .states + 1) * t .worlds
 
--- The table holds the fates of well-formed tables with so many world states.
-pub record Ready (t : Tables) (fates : List ℕ) (worlds : ℕ) : Type 0 where
-  pub well-formed : WellFormed t
-  pub holds : HoldsFates t fates
-  pub long : length fates ≡ 66560
-  pub worlds-are : worlds ≡ t .worlds
+-- The table of fates is empty, and each fate is learnt by a walk; or it holds the fates of all pairs.
+abbrev pub Learnable : Tables → List ℕ → Type 0
+Learnable t fates = (length fates ≡ 0) ⊎ (HoldsFates t fates × (length fates ≡ 66560))
+
+-- The file is not refused, and the fates of its pairs can be learnt.
+pub record Ready (s : List ℕ) (j : Job) (fates : List ℕ) : Type 0 where
+  pub opened : Opened s j
+  pub table : Learnable (tablesOf s) fates
 
 -- The first n words of the list and the bits belong together.
 pub record Listed (t : Tables) (list words : List ℕ) (n : ℕ) : Type 0 where
@@ -63,20 +67,16 @@ pub record Searching (t : Tables) (list words : List ℕ) (n h k : ℕ) : Type 0
 -- ---- what a turn asks
 
 -- A pair of the tables can be visited.
-pub record CanVisit (fates : List ℕ) (worlds : ℕ) (list words : List ℕ) (n : ℕ) (p : Placed) : Type 0 where
-  pub tables : Tables
-  pub ready : Ready tables fates worlds
-  pub listed : Listed tables list words n
-  pub pair-range : p .pair < pairs tables
+pub record CanVisit (t : Tables) (list words : List ℕ) (n : ℕ) (p : Placed) : Type 0 where
+  pub listed : Listed t list words n
+  pub pair-range : p .pair < pairs t
   pub parent-range : p .parent < 8192
   pub kind-range : p .kind ≤ 15
 
 -- The placed pair h can be tried with the kind k.
-pub record CanTurn (fates : List ℕ) (worlds : ℕ) (list words : List ℕ) (n h k : ℕ) : Type 0 where
-  pub tables : Tables
-  pub ready : Ready tables fates worlds
-  pub searching : Searching tables list words n h k
-  pub high : k ≤ tables .kinds
+pub record CanTurn (t : Tables) (list words : List ℕ) (n h k : ℕ) : Type 0 where
+  pub searching : Searching t list words n h k
+  pub high : k ≤ t .kinds
 
 -- ---- what a turn comes to
 
@@ -88,34 +88,33 @@ pub record WasMet (list words : List ℕ) (n : ℕ) (p : Placed) (m : ℕ) (list
   pub same-words : words′ ≡ words
 
 -- The pair is new and does not fail at the line's end. It is placed, and its bit is set.
-pub record IsPlaced (fates : List ℕ) (worlds : ℕ) (list words : List ℕ) (n : ℕ) (p : Placed) (m : ℕ) (list′ words′ : List ℕ) :
-    Type 0 where
+pub record IsPlaced (t : Tables) (list words : List ℕ) (n : ℕ) (p : Placed) (m : ℕ) (list′ words′ : List ℕ) : Type 0 where
   pub unmarked : bitAt words (p .pair) ≡ false
-  pub good : (kind : FailureKind) → fateIn fates worlds (p .pair) 0 ≢ fails kind
+  pub good : (kind : FailureKind) → fate t (p .pair) 0 ≢ fails kind
   pub count : m ≡ n + 1
   pub stored : list′ ≡ set list n (packed p)
   pub only : OnlySet words words′ (p .pair)
 
 -- The pair is new and fails at the line's end.
-pub record FailsThere (fates : List ℕ) (worlds : ℕ) (words : List ℕ) (p : Placed) (kind : FailureKind) : Type 0 where
+pub record FailsThere (t : Tables) (words : List ℕ) (p : Placed) (kind : FailureKind) : Type 0 where
   pub unmarked : bitAt words (p .pair) ≡ false
-  pub fails-so : fateIn fates worlds (p .pair) 0 ≡ fails kind
+  pub fails-so : fate t (p .pair) 0 ≡ fails kind
 
--- What visiting a pair comes to.
-abbrev pub Came : List ℕ → ℕ → List ℕ → List ℕ → ℕ → Placed → Turn → List ℕ → List ℕ → Type 0
-Came fates worlds list words n p (Fails kind) list′ words′ = FailsThere fates worlds words p kind × (list′ ≡ list)
-Came fates worlds list words n p (Holds m) list′ words′ =
-    WasMet list words n p m list′ words′ ⊎ IsPlaced fates worlds list words n p m list′ words′
+-- What visiting a pair comes to. Of the steps that are left for walking nothing is said, here and below: no answer hangs on them.
+abbrev pub Came : Tables → List ℕ → List ℕ → ℕ → Placed → Turn → List ℕ → List ℕ → Type 0
+Came t list words n p (Fails kind) list′ words′ = FailsThere t words p kind × (list′ ≡ list)
+Came t list words n p (Holds m left) list′ words′ =
+    WasMet list words n p m list′ words′ ⊎ IsPlaced t list words n p m list′ words′
 
 -- What a start comes to: the empty line fails from it, or the next start is taken.
 abbrev pub AfterStart : Tables → ℕ → Turn → List ℕ → List ℕ → Type 0
 AfterStart t s (Fails kind) list′ words′ = Counterexample t kind (worldState s) (lineOf 0 [])
-AfterStart t s (Holds m) list′ words′ = Starting t list′ words′ m (s + 1)
+AfterStart t s (Holds m left) list′ words′ = Starting t list′ words′ m (s + 1)
 
 -- What all starts come to: the empty line fails from one, or the first placed pair is tried with the first kind.
 abbrev pub AfterStarts : Tables → Starts → List ℕ → List ℕ → Type 0
 AfterStarts t (starts.Fails kind start) list′ words′ = Counterexample t kind start (lineOf 0 [])
-AfterStarts t (starts.Holds m) list′ words′ = Searching t list′ words′ m 0 1
+AfterStarts t (starts.Holds m left) list′ words′ = Searching t list′ words′ m 0 1
 
 -- What a turn with the placed pair h and the kind k comes to: the line that is tried is the counterexample, or the next kind is
 -- tried with the list as it is now.
@@ -123,9 +122,4 @@ abbrev pub After : Tables → List ℕ → ℕ → ℕ → ℕ → Turn → List
 After t list n h k (Fails kind) list′ words′ =
     Counterexample t kind (worldState (start (entries (take n list)) h)) (lineOf 0 (path (entries (take n list)) h ▸ k))
     × (list′ ≡ list)
-After t list n h k (Holds m) list′ words′ = Searching t list′ words′ m h (k + 1)
-
--- The same for all tables whose fates the table holds.
-abbrev pub Turned : List ℕ → ℕ → List ℕ → List ℕ → ℕ → ℕ → ℕ → Turn → List ℕ → List ℕ → Type 0
-Turned fates worlds list words n h k r list′ words′ =
-    (t : Tables) → Ready t fates worlds → Searching t list words n h k → k ≤ t .kinds → After t list n h k r list′ words′
+After t list n h k (Holds m left) list′ words′ = Searching t list′ words′ m h (k + 1)

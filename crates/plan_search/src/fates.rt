@@ -1,23 +1,34 @@
-// Reading of the table of fates by the numbers of pairs: the pair of state q and world w has the number q·W + w.
+// What a pair comes to at a column, by the numbers of pairs: the pair of state q and world w has the number q·W + w. It is read
+// from the table of fates, or learnt by a walk where the table is empty.
 ghost use mathlib.Core.Path.{_≡_};
-ghost use Prim.Native.Nat.{_*_, _≤_, _<_};
-ghost use lib.ListN.{length};
-ghost use Rattle.lamp_fates.specs.FateTable.{fatePlace};
-ghost use Rattle.plan_search.specs.FateReading.{fateTo, fateFrom, fateIn};
+ghost use Prim.Native.Nat.{ℕ, _≤_, _<_};
+ghost use Rattle.lamp_line.specs.Run.{pair, ended};
+ghost use Rattle.job_layout.specs.JobTables.{tablesOf};
+ghost use Rattle.run_laws.proofs.Pairs.{pairNumber};
+ghost use Rattle.lamp_walk.specs.WalkAnswers.{walkOf};
+ghost use Rattle.check_laws.specs.Fates.{fateOf, fate};
+ghost use Rattle.plan_search.specs.FateReading.{fateTo, fateFrom};
+ghost use Rattle.plan_search.specs.Searching.{pairs, Ready};
 use crate::Fate;
+use crate::Looked;
+use job_layout::Job;
+use lamp_fates::read_fate;
+use lamp_line::Ending;
 use lamp_line::FailureKind;
 use lamp_line::ProgramState;
 use lamp_line::WorldState;
+use lamp_walk::Walked;
+use lamp_walk::walk_open;
 
-// Where the fate of a pair at a column stands.
-fn fate_place(state: ProgramState, world: WorldState, column: u8) -> usize
-    ensures { λ r. ⌜ r ≡ fatePlace (state .0) (world .0) column ⌝ }
+// The number of a pair.
+pub fn pair_number(state: ProgramState, world: WorldState, worlds: u8) -> usize
+    ensures { λ r. ⌜ r ≡ pairNumber worlds (pair state world) ⌝ }
 {
-    column as usize * 4160 + (state.row(64) + world.row(1))
+    state.row(worlds as u16) + world.row(1)
 }
 
 // The fate that an entry of the table stands for.
-fn fate_of(number: u16, worlds: u8) -> Fate
+fn entry_fate(number: u16, worlds: u8) -> Fate
     ensures { λ r. ⌜ fateTo r ≡ fateFrom worlds number ⌝ }
 {
     if number == 1 {
@@ -39,14 +50,45 @@ fn fate_of(number: u16, worlds: u8) -> Fate
     Fate::Arrives(code / 64 * worlds as usize + code % 64)
 }
 
-// The fate of the pair with this number at a column.
-pub fn read_fate(fates: &[u16], worlds: u8, pair: usize, column: u8) -> Fate
-    requires { ⌜ (length (now fates) ≡ 66560) × (1 ≤ worlds) × (worlds ≤ 64) × (pair < 65 * worlds) × (column ≤ 15) ⌝ }
-    ensures { λ r. ⌜ fateTo r ≡ fateIn (now (fates .entry)) worlds pair column ⌝ }
+// The fate of a walk that ends, after however many steps.
+fn ending_fate(ending: Ending) -> Fate
+    ensures { λ r. ⌜ ((worlds steps : ℕ) → fateTo r ≡ fateOf worlds (ended ending steps)) ⌝ }
 {
-    let width = worlds as usize;
-    let state = ProgramState((pair / width) as u8);
-    let world = WorldState((pair % width) as u8);
-    let at = fate_place(state, world, column);
-    fate_of(fates[at], worlds)
+    match ending {
+        Ending::Goal => Fate::Succeeds,
+        Ending::Failure(kind) => Fate::Fails(kind),
+    }
+}
+
+// The fate that a walk gives, with its steps.
+fn walked_fate(walked: Walked, worlds: u8) -> Looked
+    ensures { λ r. ⌜ fateTo (r .fate) ≡ fateOf worlds (walkOf walked) ⌝ }
+{
+    match walked {
+        Walked::Ended(ending, steps) => Looked {
+            fate: ending_fate(ending),
+            steps: steps,
+        },
+        Walked::Arrived(state, world, steps) => Looked {
+            fate: Fate::Arrives(pair_number(state, world, worlds)),
+            steps: steps,
+        },
+    }
+}
+
+// The fate of the pair with this number at a column.
+pub fn fate_at(fates: &[u16], file: &[u8], job: Job, pair: usize, column: u8) -> Looked
+    requires { ⌜ Ready (now file) job (now fates) × (pair < pairs (tablesOf (now file))) × (column ≤ job .kinds) ⌝ }
+    ensures { λ r. ⌜ fateTo (r .fate) ≡ fate (tablesOf (now (file .entry))) pair column ⌝ }
+{
+    let worlds = job.worlds as usize;
+    let state = ProgramState((pair / worlds) as u8);
+    let world = WorldState((pair % worlds) as u8);
+    if fates.len() == 0 {
+        return walked_fate(walk_open(file, job, state, world, column), job.worlds);
+    }
+    Looked {
+        fate: entry_fate(read_fate(fates, state, world, column), job.worlds),
+        steps: 0,
+    }
 }

@@ -1,12 +1,12 @@
 -- The reader's refusal is handed on; then each test is the next rule's, and what the search finds is the answer.
 use borrow.Author.Needs.{needs}
 use native.Mathlib.Omega.{arith}
-use mathlib.Core.Path.{_≡_, sym, subst, _∙_}
+use mathlib.Core.Path.{sym, _∙_}
 use lib.ListN.{length}
 use Rattle.job_file.proofs.Opening.{reading-refused}
 use Rattle.lamp_walk.proofs.WalkLoop.{few-steps}
 use Rattle.job_file.proofs.WellFormed.{sound}
-use Rattle.plan_check.proofs.CheckRules.{file-refused-checked, buffer-refused, list-refused, found-checked, has-room}
+use Rattle.plan_check.proofs.CheckRules.{file-refused-checked, buffer-refused, list-refused, right-checked, has-room}
 use Rattle.plan_check.proofs.check_plan.Statement.{statement}
 use Rattle.plan_check.proofs.check_plan.Tie as tie
 
@@ -94,9 +94,6 @@ find-requires c κs =
     has-room (a .file .now) (g .reading .given .0 .0) (length (a .line .now)) (length (a .list .now)) (length (a .words .now))
     (sym (r .read-job .ensures) ∙ g .reading .given .1) (e .if1 .left) (d .if2 .left)
 
-answer-requires : tie.Need-answer-requires
-answer-requires c κs = search needs
-
 same-length : tie.Need-same-length
 same-length c = search needs
 
@@ -108,15 +105,14 @@ same-length-3 c = search needs
 
 returns-4 : tie.Need-returns-4
 returns-4 c =
-    let f = c .before .before .before .before .before .before .before in
+    let f = c .before .before .before .before .before .before in
     let d = f .before .before .before .before in
     let e = d .before .before in
     let g = e .before .before .before .before in
     let r = g .before .before in
     let a = r .before .before .before .before .before .args in
-    rw (c .answer .ensures)
-    (found-checked (a .file .now) (a .line .now) (a .list .now) (a .words .now) (g .reading .given .0 .0)
-    (sym (r .read-job .ensures) ∙ g .reading .given .1) (e .if1 .left) (d .if2 .left) (f .find .result) _ _ _ (f .find .ensures))
+    right-checked (a .file .now) (a .line .now) (a .list .now) (a .words .now) (g .reading .given .0 .0)
+    (sym (r .read-job .ensures) ∙ g .reading .given .1) (e .if1 .left) (d .if2 .left) (f .find .result) _ _ _ (f .find .ensures)
 
 pub check-plan-spec : {M : Type 1} → statement M
 check-plan-spec =
@@ -137,7 +133,6 @@ check-plan-spec =
     add-if2
     returns-3
     find-requires
-    answer-requires
     same-length
     same-length-2
     same-length-3

@@ -4,28 +4,30 @@ use mathlib.Core.Path.{refl, _∙_}
 use native.Mathlib.Omega.{arith}
 use Prim.Native.Nat.{_-_}
 use Rattle.job_layout.specs.JobTables.{tablesOf}
+use Rattle.job_tables.proofs.Ranges.{worlds-are}
+use Rattle.plan_search.proofs.FateReads.{ready-tables}
 use Rattle.plan_search.proofs.StartTurns.{TakingStarts, starting-empty, start-failed, start-held, starts-taken}
 use Rattle.plan_search.proofs.place_starts.Statement.{statement}
 use Rattle.plan_search.proofs.place_starts.Tie as tie
 
 abbrev Inv-loop : tie.InvT-loop
-Inv-loop fates file job list₀ words₀ count₀ s₀ list words count s =
+Inv-loop fates file job list₀ words₀ budget count₀ left₀ s₀ list words count left s =
     TakingStarts (tablesOf file) (job .worlds) list₀ words₀ list words count s
 
 abbrev μ-loop : tie.MeasureT-loop
-μ-loop fates file job list₀ words₀ count₀ s₀ list words count s = job .worlds - s
+μ-loop fates file job list₀ words₀ budget count₀ left₀ s₀ list words count left s = job .worlds - s
 
 loop-holds : tie.Need-loop-holds Inv-loop μ-loop
 loop-holds c =
     let b = c .before .before .before .before in
-    record { starting = starting-empty _ _ _ (b .pre .2); within = omega arith; list-length = refl; words-length = refl }
+    record { starting = starting-empty _ _ _ (b .pre .1); within = omega arith; list-length = refl; words-length = refl }
 
 place-start-requires : tie.Need-place-start-requires Inv-loop μ-loop
 place-start-requires c κs =
     let e = c .before .before in
     let l = e .before .before in
     let b = l .before .before .before .before .before in
-    (b .pre .0, b .pre .1, l .loop .inv .starting, omega (arith, e .if1 .taken))
+    (b .pre .0, l .loop .inv .starting, omega (arith, e .if1 .taken))
 
 enum-known-turn : tie.Need-enum-known-turn Inv-loop μ-loop
 enum-known-turn c = search needs
@@ -62,7 +64,7 @@ loop-again c =
     record {
       starting =
           start-held _ _ (p .place-start .result) (p .place-start .last .1 .1 .1 .0) (p .place-start .last .1 .1 .1 .1 .0)
-          (p .place-start .ensures) _ (c .before .turn2 .given .1);
+          (p .place-start .ensures) _ _ (c .before .turn2 .given .1);
       within = omega arith;
       list-length = p .place-start .kept .1 .1 .1 .0 ∙ o .inv .list-length;
       words-length = p .place-start .kept .1 .1 .1 .1 .0 ∙ o .inv .words-length;
@@ -78,8 +80,9 @@ returns-2 : tie.Need-returns-2 Inv-loop μ-loop
 returns-2 c =
     let l = c .before .before in
     let b = l .before .before .before .before .before in
-    starts-taken _ _ _ (b .pre .1) _ _ _ _ (l .loop .inv .starting)
-    (omega (arith, b .pre .1 .worlds-are, c .if1 .left)) (omega (arith, b .pre .1 .worlds-are, l .loop .inv .within))
+    let worlds = worlds-are _ _ (b .pre .0 .opened) in
+    starts-taken _ (ready-tables _ _ _ (b .pre .0)) _ _ _ _ (l .loop .inv .starting)
+    (omega (arith, worlds, c .if1 .left)) (omega (arith, worlds, l .loop .inv .within))
 
 pub place-starts-spec : {M : Type 1} → statement M
 place-starts-spec =

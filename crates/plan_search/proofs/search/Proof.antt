@@ -5,7 +5,7 @@ use native.Mathlib.Omega.{arith}
 use Rattle.job_layout.specs.JobTables.{tablesOf}
 use Rattle.job_tables.proofs.Ranges.{well-formed}
 use Rattle.plan_search.specs.Answer.{LampFails}
-use Rattle.plan_search.proofs.Naming.{halted-through, halted-start, halted-lamp, names-empty, taken-size, in-taken}
+use Rattle.plan_search.proofs.Naming.{halted-through, halted-start, halted-lamp, halted-long, names-empty, taken-size, in-taken}
 use Rattle.plan_search.proofs.Naming.{start-small, lamps-few, names-line, line-fits}
 use Rattle.plan_search.proofs.search.Statement.{statement}
 use Rattle.plan_search.proofs.search.Tie as tie
@@ -22,6 +22,9 @@ enum-known-halted-2 c = search needs
 enum-known-halted-3 : tie.Need-enum-known-halted-3
 enum-known-halted-3 c = search needs
 
+enum-told : tie.Need-enum-told
+enum-told c = search needs
+
 -- The line that fails at a lamp.
 fails-at :
     (c : tie.After-known-told3) →
@@ -32,7 +35,7 @@ fails-at :
     (c .before .halted3 .given .0 .0)
 fails-at c =
     let p = c .before .before .before .before .before .before .before in
-    halted-lamp _ (p .search-pairs .result) (p .search-pairs .last .1 .1 .1 .0) (p .search-pairs .ensures) _ _ _ _
+    halted-lamp _ _ (p .search-pairs .result) (p .search-pairs .last .1 .1 .1 .0) (p .search-pairs .ensures) _ _ _ _
     (c .before .halted3 .given .1)
 
 slice-reshare-prefix-lamps-before : tie.Need-slice-reshare-prefix-lamps-before
@@ -61,31 +64,31 @@ write-line-requires c κs =
       f .chained,
       in-taken _ _ _ _ _ _ f,
       omega (arith, taken-size _ _ _ _ _ _ f, f .few),
-      line-fits _ _ (b .pre .0 .opened) _ _ _ _ _ f _ _ (c .before .before .lamps-before .ensures) (b .pre .1),
+      line-fits _ _ (b .pre .0 .ready .opened) _ _ _ _ _ f _ _ (c .before .before .lamps-before .ensures) (b .pre .1),
       c .before .before .lamps-before .ensures,
-      start-small _ _ _ _ _ _ f (well-formed _ _ (b .pre .0 .opened)),
+      start-small _ _ _ _ _ _ f (well-formed _ _ (b .pre .0 .ready .opened)),
     )
 
-cast-t28 : tie.Need-cast-t28
-cast-t28 c =
+cast-t31 : tie.Need-cast-t31
+cast-t31 c =
     let k = c .before .before .before .before .before .before .before in
     let p = k .before .before .before .before .before .before .before in
     let b = p .before .before .before .before .before .before .before .before in
     omega (
       arith,
       c .before .before .before .before .before .lamps-before .ensures,
-      lamps-few _ _ _ _ _ _ (fails-at k) (well-formed _ _ (b .pre .0 .opened)),
+      lamps-few _ _ _ _ _ _ (fails-at k) (well-formed _ _ (b .pre .0 .ready .opened)),
     )
 
-add-t29 : tie.Need-add-t29
-add-t29 c =
+add-t32 : tie.Need-add-t32
+add-t32 c =
     let k = c .before .before .before .before .before .before .before in
     let p = k .before .before .before .before .before .before .before in
     let b = p .before .before .before .before .before .before .before .before in
     omega (
       arith,
       c .before .before .before .before .before .lamps-before .ensures,
-      lamps-few _ _ _ _ _ _ (fails-at k) (well-formed _ _ (b .pre .0 .opened)),
+      lamps-few _ _ _ _ _ _ (fails-at k) (well-formed _ _ (b .pre .0 .ready .opened)),
     )
 
 same-length : tie.Need-same-length
@@ -97,7 +100,7 @@ same-length-2 c = search needs
 returns : tie.Need-returns
 returns c =
     let p = c .before .before .before .before .before .before .before in (
-      halted-through _ (p .search-pairs .result) (p .search-pairs .last .1 .1 .1 .0) (p .search-pairs .ensures) _
+      halted-through _ _ (p .search-pairs .result) (p .search-pairs .last .1 .1 .1 .0) (p .search-pairs .ensures) _
           (c .before .halted .given .1),
       refl,
     )
@@ -112,7 +115,7 @@ returns-2 : tie.Need-returns-2
 returns-2 c =
     let p = c .before .before .before .before .before .before .before in
     names-empty _ _ _ _
-    (halted-start _ (p .search-pairs .result) (p .search-pairs .last .1 .1 .1 .0) (p .search-pairs .ensures) _ _
+    (halted-start _ _ (p .search-pairs .result) (p .search-pairs .last .1 .1 .1 .0) (p .search-pairs .ensures) _ _
     (c .before .halted2 .given .1))
 
 same-length-5 : tie.Need-same-length-5
@@ -133,8 +136,22 @@ returns-3 c =
     let p = k .before .before .before .before .before .before .before in
     let b = p .before .before .before .before .before .before .before .before in
     names-line _ _ _ _ _ _ f _ _ (w .write-line .result) (w .write-line .last .1 .0) (m .lamps-before .ensures)
-    (line-fits _ _ (b .pre .0 .opened) _ _ _ _ _ f _ _ (m .lamps-before .ensures) (b .pre .1)) (w .write-line .kept .1 .0)
+    (line-fits _ _ (b .pre .0 .ready .opened) _ _ _ _ _ f _ _ (m .lamps-before .ensures) (b .pre .1)) (w .write-line .kept .1 .0)
     (w .write-line .ensures)
+
+same-length-8 : tie.Need-same-length-8
+same-length-8 c = search needs
+
+same-length-9 : tie.Need-same-length-9
+same-length-9 c = search needs
+
+returns-4 : tie.Need-returns-4
+returns-4 c =
+    let p = c .before .before .before .before .before .before in (
+      halted-long _ _ (p .search-pairs .result) (p .search-pairs .last .1 .1 .1 .0) (p .search-pairs .ensures)
+          (c .enum-told .given .1),
+      refl,
+    )
 
 pub search-spec : {M : Type 1} → statement M
 search-spec =
@@ -150,8 +167,9 @@ search-spec =
     slice-reshare-prefix-write-line
     slice-aggregate-write-line
     write-line-requires
-    cast-t28
-    add-t29
+    cast-t31
+    add-t32
+    enum-told
     same-length
     same-length-2
     returns
@@ -161,4 +179,7 @@ search-spec =
     same-length-5
     same-length-6
     same-length-7
-    returns-3)
+    returns-3
+    same-length-8
+    same-length-9
+    returns-4)

@@ -5,8 +5,8 @@ use native.Mathlib.Omega.{arith}
 use Prim.Native.Nat.{_-_, _/_}
 use Rattle.lamp_line.proofs.Products.{product-le}
 use Rattle.plan_search.specs.FateReading.{fateFrom}
-use Rattle.plan_search.proofs.fates.fate_of.Statement.{statement}
-use Rattle.plan_search.proofs.fates.fate_of.Tie as tie
+use Rattle.plan_search.proofs.fates.entry_fate.Statement.{statement}
+use Rattle.plan_search.proofs.fates.entry_fate.Tie as tie
 
 returns : tie.Need-returns
 unfolding fateFrom
@@ -68,7 +68,7 @@ returns-6 c =
       le-ltb _ _ (c .if5 .left),
     )
 
-pub fate-of-spec : {M : Type 1} → statement M
-fate-of-spec =
+pub entry-fate-spec : {M : Type 1} → statement M
+entry-fate-spec =
     tie.close
     (tie.spec returns returns-2 returns-3 returns-4 returns-5 cast-code mul-t12 add-t14 returns-6)
