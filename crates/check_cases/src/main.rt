@@ -4,6 +4,7 @@ ghost use Prim.Native.Nat.{_≤_};
 ghost use lib.ListN.{length};
 use bench_jobs::bench;
 use bench_jobs::five_states;
+use bench_jobs::shifted;
 use lamp_line::Ending;
 use lamp_line::FailureKind;
 use lamp_line::WorldState;
@@ -202,6 +203,7 @@ fn bench_checks() {
     file[5] = 1;
     check_large(b"first state 1", &file);
     check_large(b"five states", &five_states());
+    check_large(b"parts two to five one later", &shifted());
 }
 
 // The least sizes of what is lent, and words that are lent full of ones.

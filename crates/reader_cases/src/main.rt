@@ -2,6 +2,7 @@
 ghost use mathlib.Core.Path.{_≡_};
 ghost use lib.ListN.{length};
 use bench_jobs::bench;
+use bench_jobs::shifted;
 use job_file::Reading;
 use job_layout::Job;
 use job_layout::Part;
@@ -50,22 +51,6 @@ fn show_first(name: &[u8], size: usize, file: &[u8]) {
     if size <= file.len() {
         show(name, &file[..size]);
     }
-}
-
-// The bench line with its parts from the second on one place later.
-fn shifted() -> [u8; 129]
-    ensures { λ r. ⌜ 129 ≡ length r ⌝ }
-{
-    [
-        4, 3, 2, 2, 4, 0, 0, 0, 28, 0, 4, 0, 33, 0, 72, 0, 105, 0,
-        3, 0, 108, 0, 9, 0, 117, 0, 12, 0, 0, 0, 1, 0, 0, 0, 0, 0,
-        1, 0, 1, 1, 0, 1, 1, 1, 1, 2, 0, 2, 1, 2, 1, 0, 255, 0,
-        0, 0, 1, 0, 255, 1, 0, 1, 1, 0, 255, 2, 0, 2, 1, 0, 255, 0,
-        0, 2, 0, 0, 255, 2, 0, 0, 0, 0, 255, 2, 0, 2, 0, 0, 255, 1,
-        0, 1, 0, 0, 255, 0, 255, 0, 255, 0, 255, 2, 0, 2, 0, 1, 0, 0,
-        1, 0, 0, 0, 0, 0, 0, 0, 0, 0, 4, 1, 1, 3, 2, 3, 3, 255,
-        2, 0, 255,
-    ]
 }
 
 // The bench line behind which bytes follow that mean nothing, up to the greatest size.
