@@ -1,22 +1,18 @@
 -- The check's answer, with buffers that are large enough for every job, says what is to be printed.
 use mathlib.Core.Path.{_≡_, refl, sym, ap, subst, _∙_}
-use mathlib.Core.Bool.{Bool, true, false, _||_}
 use mathlib.Core.Option.{Option, none, some}
 use mathlib.Core.List.{List, [], _∷_, _++_}
 use Prim.Native.Nat.{ℕ, _+_, _*_, _≤_}
 use native.Mathlib.Omega.{arith}
 use borrow.Author.Tests.{le-ltb}
 use Rattle.lamp_line.proofs.Products.{product-le}
-use lib.Dec.{ltb}
 use lib.ListN.{length, drop, replicate, length-append, length-replicate}
-use lib.Seq.{sets, sets-eq, take-at, drop-at}
-use Rattle.lamp_line.specs.Tables.{Tables}
+use lib.Seq.{sets-eq, take-at, drop-at}
 use Rattle.lamp_line.specs.Refusals.{Rule, _when_, refusal, orRefused, answerBy}
-use Rattle.lamp_line.specs.Check.{accepted, failed, Right}
+use Rattle.lamp_line.specs.Check.{accepted, failed}
 use Rattle.lamp_line.proofs.Answering.{by-rules-before}
 use Rattle.job_layout.specs.Layout.{head}
 use Rattle.job_layout.specs.JobTables.{tablesOf}
-use Rattle.job_file.specs.declared.Reading.the-variants as reading
 use Rattle.job_file.specs.Reading.{fileRules, readingOf, Opened}
 use Rattle.job_file.specs.Operations.{bufferShort, listShort, checkRules}
 use Rattle.job_file.proofs.WellFormed.{sound}

@@ -15,9 +15,8 @@ use Rattle.lamp_line.specs.Cabinet as machine
 use Rattle.lamp_line.proofs.Answering.{by-no-rule, by-rules-before}
 use Rattle.job_layout.specs.declared.Job.{Job}
 use Rattle.job_layout.specs.JobTables.{tablesOf}
-use Rattle.job_file.specs.declared.Reading.{Reading}
 use Rattle.job_file.specs.declared.Reading.the-variants as reading
-use Rattle.job_file.specs.Reading.{fileRules, readingOf, Opened, refusalOf}
+use Rattle.job_file.specs.Reading.{fileRules, readingOf, Opened}
 use Rattle.job_file.specs.Operations.{actionRules, resultRules}
 use Rattle.job_file.proofs.Opening.{file-refused, file-opened}
 use Rattle.cabinet.specs.declared.BeginAnswer.the-variants as begun

@@ -1,8 +1,8 @@
 -- The cabinet reads marks and plan only: files that are equal in these have tables that are equal in these, and so the cabinet's
 -- machine replies the same.
-use mathlib.Core.Path.{_≡_, refl, sym, ap, subst, _∙_}
+use mathlib.Core.Path.{_≡_, refl, sym, ap, _∙_}
 use mathlib.Core.Bool.{Bool, true, false, cond, _&&_}
-use mathlib.Core.Option.{Option, none, some}
+use mathlib.Core.Option.{none}
 use mathlib.Core.List.{List}
 use Prim.Native.Nat.{ℕ, _+_, _*_, _<_}
 use native.Mathlib.Omega.{arith}
@@ -11,7 +11,6 @@ use lib.Arith.{digits-lt}
 use lib.Dec.{ltb}
 use Rattle.plans.specs.Plan.{Action, Result}
 use Rattle.lamp_line.specs.declared.ProgramState.{ProgramState}
-use Rattle.lamp_line.specs.declared.Cabinet.{Cabinet}
 use Rattle.lamp_line.specs.Cabinet.{ask}
 use Rattle.lamp_line.specs.Cabinet as machine
 use Rattle.lamp_line.specs.Promises.{SameForCabinet}

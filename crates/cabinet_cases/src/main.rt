@@ -20,7 +20,10 @@ fn print_state(state: Cabinet) {
 }
 
 fn state_of(state: u8, lamps: u16) -> Cabinet {
-    Cabinet { state: ProgramState(state), lamps: lamps }
+    Cabinet {
+        state: ProgramState(state),
+        lamps: lamps,
+    }
 }
 
 // The state that a beginning answers; the final one with no lamps where it is refused.

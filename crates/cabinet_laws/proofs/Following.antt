@@ -11,23 +11,13 @@ use Rattle.plans.specs.Execution.{Label, actionOf, resultOf, Step, T*, here, jo
 use Rattle.lamp_line.specs.declared.ProgramState.{ProgramState}
 use Rattle.lamp_line.specs.declared.WorldState.{WorldState}
 use Rattle.lamp_line.specs.declared.Cabinet.{Cabinet}
-use Rattle.lamp_line.specs.Tables.{Tables, Line, Situation, WellFormed, programState, movesOn, endKinds, lampTheory, planOf}
+use Rattle.lamp_line.specs.Tables.{Tables, Line, Situation, WellFormed, programState, movesOn, lampTheory, planOf}
 use Rattle.lamp_line.specs.Check.{situation}
-use Rattle.lamp_line.specs.Run.{pair}
 use Rattle.lamp_line.specs.Cabinet.{Call, ask, report, act, taken, stateAfter, reply, left}
 use Rattle.lamp_line.specs.Promises.{Run-of, CabinetFollows}
-use Rattle.run_laws.proofs.Pairs.{InRange}
 use Rattle.run_laws.proofs.Steps.{execution-in-range, end-kept, step-passes}
+use Rattle.cabinet_laws.specs.Places.{machineAt, Place}
 use Rattle.cabinet_laws.proofs.Replies.{asked-acts, passes-taken, stays-taken}
-
--- The machine of an execution that has come to q and s.
-abbrev pub machineAt : ProgramState → Situation → Cabinet
-machineAt q s = record { state = q; lamps = length (s .rest .lamps) }
-
--- Where executions of the job come to: the pair is one of the tables, and the line's end is one of the job's.
-pub record Place (t : Tables) (q : ProgramState) (s : Situation) : Type 0 where
-  pub in-range : InRange t (pair q (s .world))
-  pub end-range : s .rest .end < endKinds t
 
 -- The state left by one list of calls after another.
 left-append : (t : Tables) (m : Cabinet) (calls more : List Call) → left t m (calls ++ more) ≡ left t (left t m calls) more

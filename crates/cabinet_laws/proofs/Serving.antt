@@ -14,7 +14,8 @@ use Rattle.lamp_line.specs.Cabinet.{Refuses, Reports, all-reported, asked, besi
 use Rattle.lamp_line.specs.Cabinet.{Owed, no-more, next-action, after-last, old-state, step-taken}
 use Rattle.lamp_line.specs.Promises.{CabinetServes}
 use Rattle.cabinet_laws.proofs.Replies.{asked-ended}
-use Rattle.cabinet_laws.proofs.Following.{machineAt, Place, begins-at-place, place-kept, step-asked, step-reported}
+use Rattle.cabinet_laws.specs.Places.{machineAt, Place}
+use Rattle.cabinet_laws.proofs.Following.{begins-at-place, place-kept, step-asked, step-reported}
 
 module _ (t : Tables) where
   -- Calls to the machine m while the execution has the steps ls to make: they are answered as owed, and leave the machine n.

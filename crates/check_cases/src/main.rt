@@ -123,7 +123,14 @@ fn print_answer(answer: CheckAnswer, line: &[u8], list: &[u32], words: &[u64], c
 }
 
 // Checks a plan with a line buffer full of 7s, a list full of 9s and words of the given content.
-fn check(name: &[u8], file: &[u8], line: &mut [u8], list: &mut [u32], words: &mut [u64], content: u64) {
+fn check(
+    name: &[u8],
+    file: &[u8],
+    line: &mut [u8],
+    list: &mut [u32],
+    words: &mut [u64],
+    content: u64,
+) {
     io::write_all(STDOUT_FILENO, name);
     io::write_all(STDOUT_FILENO, b":");
     let answer = plan_check::check_plan(file, line, list, words);
@@ -212,11 +219,25 @@ fn enough() {
     let mut line = [7u8; 13];
     let mut list = [9u32; 15];
     let mut words = [0u64; 1];
-    check(b"line buffer 13, working list 15, one word", &g, &mut line, &mut list, &mut words, 0);
+    check(
+        b"line buffer 13, working list 15, one word",
+        &g,
+        &mut line,
+        &mut list,
+        &mut words,
+        0,
+    );
     let mut line = [7u8; 13];
     let mut list = [9u32; 15];
     let mut words = [18446744073709551615u64; 1];
-    check(b"the same with a word of ones", &g, &mut line, &mut list, &mut words, 18446744073709551615);
+    check(
+        b"the same with a word of ones",
+        &g,
+        &mut line,
+        &mut list,
+        &mut words,
+        18446744073709551615,
+    );
 }
 
 // Line buffers that are too small.
@@ -229,7 +250,14 @@ fn small_lines() {
     let mut line = [7u8; 12];
     let mut list = [9u32; 14];
     let mut words = [5u64; 0];
-    check(b"all three too small", &g, &mut line, &mut list, &mut words, 5);
+    check(
+        b"all three too small",
+        &g,
+        &mut line,
+        &mut list,
+        &mut words,
+        5,
+    );
 }
 
 // Working lists and words that are too small.
@@ -252,7 +280,14 @@ fn file_first() {
     let mut line = [7u8; 0];
     let mut list = [9u32; 15];
     let mut words = [5u64; 1];
-    check(b"goal byte 2, no line buffer", &file, &mut line, &mut list, &mut words, 5);
+    check(
+        b"goal byte 2, no line buffer",
+        &file,
+        &mut line,
+        &mut list,
+        &mut words,
+        5,
+    );
 }
 
 // No program state but the final one: one byte, W numbers and one word are enough.
@@ -263,7 +298,14 @@ fn no_states() {
     let mut line = [7u8; 1];
     let mut list = [9u32; 2];
     let mut words = [0u64; 1];
-    check(b"final at once, line buffer 1, working list 2", &file, &mut line, &mut list, &mut words, 0);
+    check(
+        b"final at once, line buffer 1, working list 2",
+        &file,
+        &mut line,
+        &mut list,
+        &mut words,
+        0,
+    );
 }
 
 // The kinds of `spoils_or_stops` exchanged.
@@ -281,8 +323,14 @@ fn stops_or_spoils() -> [u8; 68]
 // Small jobs on which a search in another order, or with other pairs, answers something else.
 fn small_jobs() {
     check_large(b"the empty line of every start first", &two_starts());
-    check_large(b"goal false behind kind 1, not legal at kind 2", &spoils_or_stops());
-    check_large(b"not legal at kind 1, goal false behind kind 2", &stops_or_spoils());
+    check_large(
+        b"goal false behind kind 1, not legal at kind 2",
+        &spoils_or_stops(),
+    );
+    check_large(
+        b"not legal at kind 1, goal false behind kind 2",
+        &stops_or_spoils(),
+    );
     check_large(b"one program state with three worlds", &two_are_too_many());
     check_large(b"pairs with the final state count", &one_lamp_only());
 }
@@ -470,7 +518,11 @@ fn start_of(number: u32) -> u8 {
 fn kinds_of(number: u32) -> [u8; 3]
     ensures { λ r. ⌜ 3 ≡ length r ⌝ }
 {
-    [(1 + number / 4 % 2) as u8, (1 + number / 2 % 2) as u8, (1 + number % 2) as u8]
+    [
+        (1 + number / 4 % 2) as u8,
+        (1 + number / 2 % 2) as u8,
+        (1 + number % 2) as u8,
+    ]
 }
 
 // The number of an ending: 0 for Goal.

@@ -13,8 +13,8 @@ use Rattle.lamp_line.specs.declared.FailureKind.the-variants.{NotLegal, NoBranc
 use Rattle.lamp_line.specs.Tables.{Outcome, outcome, Tables, programState, worldState, endKinds, lampColumn}
 use Rattle.lamp_line.specs.Check.{accepted, failed}
 use Rattle.lamp_line.specs.Run.{act, walk, ownSteps}
-use Rattle.run_laws.proofs.Pairs.{pairNumber}
-use Rattle.run_laws.proofs.Actions.{lineOf}
+use Rattle.run_laws.specs.Pairs.{pairNumber}
+use Rattle.run_laws.specs.Lines.{lineOf}
 use Rattle.check_laws.specs.Fates.{pairOf, fate, endsFrom}
 use Rattle.check_laws.specs.Search.{met, kindsFrom, entriesFrom, startsFrom, verdictOf}
 

@@ -11,11 +11,11 @@ use Rattle.lamp_line.specs.Endings.{kindNumber}
 use Rattle.lamp_line.specs.Check.{Fails}
 use Rattle.lamp_line.specs.Run.{Pair, pair, Walk, ended, arrived, Run, ran, lampWalk, along}
 use Rattle.lamp_line.specs.Promises.{Run-of}
-use Rattle.run_laws.proofs.Pairs.{InRange, pairNumber}
-use Rattle.run_laws.proofs.Actions.{lineOf}
+use Rattle.run_laws.specs.Pairs.{InRange, pairNumber}
+use Rattle.run_laws.specs.Lines.{lineOf}
 use Rattle.run_laws.proofs.Walks.{arrived-in-range, arrived-at-lamp}
 use Rattle.run_laws.proofs.Runs.{runAfter, along-ends, along-passes}
-use Rattle.search_laws.proofs.Graph.{Fails as GraphFails, bad-end, bad-lamp, goes-on, FailsFrom}
+use Rattle.search_laws.specs.Graph.{Fails as GraphFails, bad-end, bad-lamp, goes-on, FailsFrom}
 use Rattle.check_laws.specs.Fates.{fails, fateOf}
 use Rattle.check_laws.proofs.FateLaws.{kind-number-injective, fate-of-pair, fails-walk, arrives-walk}
 use Rattle.check_laws.proofs.TableGraph.{graph, start-in-range}

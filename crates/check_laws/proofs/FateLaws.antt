@@ -13,7 +13,8 @@ use Rattle.lamp_line.specs.declared.Ending.the-variants.{Goal, Failure}
 use Rattle.lamp_line.specs.Tables.{Tables, programState, worldState}
 use Rattle.lamp_line.specs.Endings.{kindNumber}
 use Rattle.lamp_line.specs.Run.{Pair, pair, Walk, ended, arrived, isFinal, judged, walk, lampWalk}
-use Rattle.run_laws.proofs.Pairs.{InRange, pairNumber, pair-number-bound}
+use Rattle.run_laws.specs.Pairs.{InRange, pairNumber}
+use Rattle.run_laws.proofs.Pairs.{pair-number-bound}
 use Rattle.run_laws.proofs.Actions.{act-final}
 use Rattle.run_laws.proofs.Walks.{walk-spent, walk-ends}
 use Rattle.check_laws.specs.Fates.{pairOf, fails, arrives, fateOf, fate}

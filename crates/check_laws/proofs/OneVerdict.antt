@@ -13,7 +13,7 @@ use Rattle.lamp_line.specs.Endings.{Ends, Leads}
 use Rattle.plans.specs.Execution.{Correct}
 use Rattle.lamp_line.specs.Check.{situation, Fails, rank, Counterexample, Reached, Accepts, Verdict, accepted, failed, Right}
 use Rattle.lamp_line.specs.Promises.{Run-of, OneRightVerdict}
-use Rattle.run_laws.proofs.Actions.{lineOf}
+use Rattle.run_laws.specs.Lines.{lineOf}
 use Rattle.search_laws.proofs.Lex.{≼-antisym}
 use Rattle.check_laws.specs.Search.{verdictOf}
 use Rattle.check_laws.proofs.TableGraph.{one-end-kind}

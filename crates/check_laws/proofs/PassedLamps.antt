@@ -18,13 +18,14 @@ use Rattle.lamp_line.specs.Tables.{lampColumn, lampTheory, planOf}
 use Rattle.lamp_line.specs.Check.{situation}
 use Rattle.lamp_line.specs.Run.{Pair, pair, Walk, ended, arrived, lampWalk}
 use Rattle.plans.proofs.Executions.{LastStep, shared-beginning, same-length-same-execution, longest}
-use Rattle.run_laws.proofs.Pairs.{InRange, pairNumber}
+use Rattle.run_laws.specs.Pairs.{InRange, pairNumber}
 use Rattle.run_laws.proofs.Steps.{steps-determined, end-kept, step-passes}
-use Rattle.run_laws.proofs.Actions.{lineOf, ExecutionAt, ends-halted}
+use Rattle.run_laws.specs.Lines.{lineOf}
+use Rattle.run_laws.proofs.Actions.{ExecutionAt, ends-halted}
 use Rattle.run_laws.proofs.Walks.{WalkMeans, rests, lingers, Arrives, arrives, walk-means, arrived-in-range, arrived-at-lamp}
 use Rattle.run_laws.proofs.Circling.{lingers-passes-none}
-use Rattle.search_laws.proofs.Lex.{_▸_}
-use Rattle.search_laws.proofs.Graph.{Reach, past-lamp}
+use Rattle.search_laws.specs.Lists.{_▸_}
+use Rattle.search_laws.specs.Graph.{Reach, past-lamp}
 use Rattle.check_laws.specs.Fates.{fateOf}
 use Rattle.check_laws.proofs.FateLaws.{fate-of-pair}
 use Rattle.check_laws.proofs.TableGraph.{graph}

@@ -11,12 +11,14 @@ use Rattle.lamp_line.specs.Tables.{Tables, WellFormed, Kinds, Situation, worldS
 use Rattle.lamp_line.specs.Check.{Arrival, Reached}
 use Rattle.lamp_line.specs.Run.{Pair, pair, Walk, arrived, lampWalk}
 use Rattle.plans.proofs.Executions.{last-step, same-length-same-execution}
-use Rattle.run_laws.proofs.Pairs.{InRange, pairNumber}
+use Rattle.run_laws.specs.Pairs.{InRange, pairNumber}
 use Rattle.run_laws.proofs.Steps.{steps-determined}
-use Rattle.run_laws.proofs.Actions.{lineOf, ExecutionAt}
+use Rattle.run_laws.specs.Lines.{lineOf}
+use Rattle.run_laws.proofs.Actions.{ExecutionAt}
 use Rattle.run_laws.proofs.Walks.{WalkMeans, Arrives, arrives, walk-means, arrived-in-range}
-use Rattle.search_laws.proofs.Lex.{_▸_}
-use Rattle.search_laws.proofs.Graph.{Kind, Reach, from-start, past-lamp, snoc-append}
+use Rattle.search_laws.specs.Lists.{_▸_}
+use Rattle.search_laws.specs.Graph.{Kind, Reach, from-start, past-lamp}
+use Rattle.search_laws.proofs.Graph.{snoc-append}
 use Rattle.search_laws.proofs.Shortness.{kinds-append}
 use Rattle.check_laws.specs.Fates.{arrives as arrives-with, fate}
 use Rattle.check_laws.proofs.FateLaws.{fate-of-pair, arrives-walk}

@@ -14,11 +14,12 @@ use Rattle.lamp_line.specs.Endings.{kindNumber, Ends, Leads}
 use Rattle.lamp_line.specs.Check.{rank, Counterexample, Reached, Accepts}
 use Rattle.lamp_line.specs.Run.{Pair, Run, ran, run}
 use Rattle.lamp_line.specs.Promises.{Run-of}
-use Rattle.run_laws.proofs.Pairs.{pairNumber}
+use Rattle.run_laws.specs.Pairs.{pairNumber}
 use Rattle.run_laws.proofs.Steps.{execution-in-range}
-use Rattle.run_laws.proofs.Actions.{lineOf}
+use Rattle.run_laws.specs.Lines.{lineOf}
 use Rattle.search_laws.proofs.Keys.{stem-is, key-stem-order}
-use Rattle.search_laws.proofs.Graph.{FailsFrom, Least}
+use Rattle.search_laws.specs.Graph.{FailsFrom}
+use Rattle.search_laws.proofs.Graph.{Least}
 use Rattle.search_laws.proofs.Table.{Entry, entry, node}
 use Rattle.search_laws.proofs.Shortness.{least-short}
 use Rattle.search_laws.proofs.Turns.{At, accepted, reached-in-table}

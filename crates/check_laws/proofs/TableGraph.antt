@@ -8,9 +8,10 @@ use Rattle.lamp_line.specs.declared.WorldState.{WorldState}
 use Rattle.lamp_line.specs.Tables.{Tables, WellFormed, worldState, endKinds, lampColumn}
 use Rattle.lamp_line.specs.Endings.{kindNumber}
 use Rattle.lamp_line.specs.Run.{Pair, pair, lampWalk}
-use Rattle.run_laws.proofs.Pairs.{InRange, pairNumber, pair-number-bound, pair-number-injective}
+use Rattle.run_laws.specs.Pairs.{InRange, pairNumber}
+use Rattle.run_laws.proofs.Pairs.{pair-number-bound, pair-number-injective}
 use Rattle.run_laws.proofs.Walks.{arrived-in-range}
-use Rattle.search_laws.proofs.Graph.{Graph, Plain}
+use Rattle.search_laws.specs.Graph.{Graph, Plain}
 use Rattle.search_laws.proofs.Shortness.{Coded}
 use Rattle.check_laws.specs.Fates.{pairOf, fails, arrives, startNode, fate}
 use Rattle.check_laws.proofs.FateLaws.{number-bound, fate-of-pair, arrives-walk, arrived-not-final}

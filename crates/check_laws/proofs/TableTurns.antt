@@ -11,9 +11,10 @@ use Rattle.lamp_line.specs.declared.FailureKind.{FailureKind}
 use Rattle.lamp_line.specs.Tables.{Tables, WellFormed, worldState, endKinds, lampColumn}
 use Rattle.lamp_line.specs.Endings.{kindNumber}
 use Rattle.lamp_line.specs.Check.{Counterexample}
-use Rattle.run_laws.proofs.Actions.{lineOf}
-use Rattle.search_laws.proofs.Lex.{_▸_}
-use Rattle.search_laws.proofs.Graph.{Kind, reach-below}
+use Rattle.run_laws.specs.Lines.{lineOf}
+use Rattle.search_laws.specs.Lists.{_▸_}
+use Rattle.search_laws.specs.Graph.{Kind}
+use Rattle.search_laws.proofs.Graph.{reach-below}
 use Rattle.search_laws.proofs.Table.{Entry, entry, node, start, path}
 use Rattle.search_laws.proofs.Grown.{grown, onward}
 use Rattle.search_laws.proofs.Room.{entries-fit}

@@ -13,7 +13,7 @@ use lib.ListN.{length}
 use Rattle.lamp_line.specs.declared.FailureKind.{FailureKind}
 use Rattle.lamp_line.specs.Tables.{Tables, WellFormed, worldState, endKinds, lampColumn}
 use Rattle.lamp_line.specs.Check.{Right}
-use Rattle.search_laws.proofs.Graph.{Kind}
+use Rattle.search_laws.specs.Graph.{Kind}
 use Rattle.search_laws.proofs.Table.{Entry, node}
 use Rattle.search_laws.proofs.Turns.{At, turn-next}
 use Rattle.search_laws.proofs.Begin.{Begun, begin-empty}

@@ -5,7 +5,7 @@ use Rattle.lamp_line.specs.declared.FailureKind.{FailureKind}
 use Rattle.lamp_line.specs.declared.Ending.the-variants.{Goal, Failure}
 use Rattle.lamp_line.specs.Tables.{Tables, programState, worldState, endKinds}
 use Rattle.lamp_line.specs.Run.{Pair, pair, Walk, ended, arrived, lampWalk}
-use Rattle.run_laws.proofs.Pairs.{pairNumber}
+use Rattle.run_laws.specs.Pairs.{pairNumber}
 
 -- The pair with this number.
 unfoldable pub pairOf : ℕ → ℕ → Pair

@@ -8,8 +8,8 @@ use lib.ListN.{length}
 use Rattle.lamp_line.specs.declared.FailureKind.{FailureKind}
 use Rattle.lamp_line.specs.Tables.{Tables, worldState, lampColumn}
 use Rattle.lamp_line.specs.Check.{Verdict, accepted, failed}
-use Rattle.run_laws.proofs.Actions.{lineOf}
-use Rattle.search_laws.proofs.Lex.{_▸_}
+use Rattle.run_laws.specs.Lines.{lineOf}
+use Rattle.search_laws.specs.Lists.{_▸_}
 use Rattle.search_laws.proofs.Table.{Entry, entry, node, start, path}
 use Rattle.search_laws.proofs.Grown.{grown, onward}
 use Rattle.check_laws.specs.Fates.{Fate, succeeds, fails, arrives, AtEnds, good, bad, startNode, fate, atEnds}

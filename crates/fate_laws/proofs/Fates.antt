@@ -17,13 +17,15 @@ use Rattle.lamp_line.specs.declared.Ending.the-variants.{Failure}
 use Rattle.lamp_line.specs.Tables.{Tables, Line, WellFormed, final, lampColumn, lampTheory, planOf}
 use Rattle.lamp_line.specs.Check.{situation}
 use Rattle.lamp_line.specs.Run.{Pair, Move, ends, stays, passes, Walk, ended, arrived, isFinal, judged, act, walk, lampWalk}
-use Rattle.run_laws.proofs.Pairs.{InRange}
+use Rattle.run_laws.specs.Pairs.{InRange}
 use Rattle.run_laws.proofs.Steps.{steps-determined}
-use Rattle.run_laws.proofs.Actions.{lineOf, act-final, ends-halted}
+use Rattle.run_laws.specs.Lines.{lineOf}
+use Rattle.run_laws.proofs.Actions.{act-final, ends-halted}
 use Rattle.run_laws.proofs.Walks.{walkAfter, walk-spent, walk-ends, walk-stays, walk-passes, walk-means}
 use Rattle.run_laws.proofs.Walks.{Lingers, not-ended, stays-on, WalkMeans, rests, lingers, arrives}
 use Rattle.run_laws.proofs.Circling.{lingers-forever, lingers-passes-none}
-use Rattle.fate_laws.proofs.Stretches.{next, far, far-first, far-joined}
+use Rattle.fate_laws.specs.Stretches.{next, far}
+use Rattle.fate_laws.proofs.Stretches.{far-first, far-joined}
 
 -- What a walk comes to, without the steps that it counts.
 abbrev pub uncounted : Walk → Walk

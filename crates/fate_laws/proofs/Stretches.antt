@@ -6,26 +6,17 @@ use Prim.Native.Nat.{ℕ, zero, suc, _+_}
 use native.Mathlib.Nat.{zero-add, suc-add}
 use Rattle.lamp_line.specs.Tables.{Tables, WellFormed}
 use Rattle.lamp_line.specs.Run.{Pair, Move, ends, stays, passes, act}
-use Rattle.run_laws.proofs.Pairs.{InRange}
+use Rattle.run_laws.specs.Pairs.{InRange}
 use Rattle.run_laws.proofs.Steps.{step-in-range}
-use Rattle.run_laws.proofs.Actions.{lineOf, MoveMeans, act-means}
-
--- A move, and then another from the pair at which it stays.
-abbrev pub next : Move → (Pair → Move) → Move
-next (ends x) more = ends x
-next (stays p) more = more p
-next (passes p) more = passes p
+use Rattle.run_laws.specs.Lines.{lineOf}
+use Rattle.run_laws.proofs.Actions.{MoveMeans, act-means}
+use Rattle.fate_laws.specs.Stretches.{next, far}
 
 module _ (t : Tables) (c : ℕ) where
-  -- At most n actions at the column c: fewer where one ends the run or passes the lamp.
-  unfoldable pub far : ℕ → Pair → Move
-  far zero p = stays p
-  far (suc n) p = next (act t p c) (λ p′. far n p′)
-
   -- The first action, and then the others.
-  pub far-first : (n : ℕ) (p : Pair) (m : Move) → act t p c ≡ m → far (suc n) p ≡ next m (λ p′. far n p′)
+  pub far-first : (n : ℕ) (p : Pair) (m : Move) → act t p c ≡ m → far t c (suc n) p ≡ next m (λ p′. far t c n p′)
   unfolding far
-  far-first n p m e = ap (λ (m : Move). next m (λ p′. far n p′)) e
+  far-first n p m e = ap (λ (m : Move). next m (λ p′. far t c n p′)) e
 
   next-none : (m : Move) → next m (λ p. stays p) ≡ m
   next-none (ends x) = refl
@@ -33,7 +24,7 @@ module _ (t : Tables) (c : ℕ) where
   next-none (passes p) = refl
 
   -- One action.
-  pub far-one : (p : Pair) → far 1 p ≡ act t p c
+  pub far-one : (p : Pair) → far t c 1 p ≡ act t p c
   unfolding far
   far-one p = next-none (act t p c)
 
@@ -44,15 +35,15 @@ module _ (t : Tables) (c : ℕ) where
   next-next (passes p) f g h e = refl
 
   -- At most m actions and then at most n more are at most m + n.
-  far-add : (m n : ℕ) (p : Pair) → far (m + n) p ≡ next (far m p) (λ p′. far n p′)
+  far-add : (m n : ℕ) (p : Pair) → far t c (m + n) p ≡ next (far t c m p) (λ p′. far t c n p′)
   unfolding far
   far-add zero n p = rw zero-add
   far-add (suc m) n p =
-      rw suc-add (next-next (act t p c) (λ p′. far (m + n) p′) (λ p′. far m p′) (λ p′. far n p′) (λ p′. far-add m n p′))
+      rw suc-add (next-next (act t p c) (λ p′. far t c (m + n) p′) (λ p′. far t c m p′) (λ p′. far t c n p′) (λ p′. far-add m n p′))
 
   -- The same where it is known that the first m actions come to y: doubling puts two stretches together so.
-  pub far-joined : (m n : ℕ) (p : Pair) (y : Move) → far m p ≡ y → far (m + n) p ≡ next y (λ p′. far n p′)
-  far-joined m n p y e = far-add m n p ∙ ap (λ (y : Move). next y (λ p′. far n p′)) e
+  pub far-joined : (m n : ℕ) (p : Pair) (y : Move) → far t c m p ≡ y → far t c (m + n) p ≡ next y (λ p′. far t c n p′)
+  far-joined m n p y e = far-add m n p ∙ ap (λ (y : Move). next y (λ p′. far t c n p′)) e
 
 -- ---- stretches keep to the pairs of the tables
 

@@ -8,7 +8,7 @@ use Rattle.lamp_line.specs.Tables.{worldState, columns, endKinds, lampColumn}
 use Rattle.lamp_line.specs.Refusals.{refusal, answerBy, some-below}
 use Rattle.lamp_line.specs.Run.{act, walk, ownSteps}
 use Rattle.lamp_line.specs.Check.{Verdict, accepted, failed, Right}
-use Rattle.run_laws.proofs.Pairs.{pairNumber}
+use Rattle.run_laws.specs.Pairs.{pairNumber}
 use Rattle.check_laws.specs.Fates.{pairOf, fate, endsFrom}
 use Rattle.check_laws.specs.Search.{met, kindsFrom, entriesFrom, startsFrom, verdictOf}
 use Rattle.check_laws.proofs.VerdictRight.{verdict-right}

@@ -1,24 +1,22 @@
 -- Demand 3 for the operations on the bytes of a job file: after an accepted plan every list of calls along any line is answered as it is
 -- owed; after an accepted plan every run ends in Goal, and after a failed one the run of the written line in the named failure.
-use mathlib.Core.Path.{_≡_, refl, sym, ap, subst, _∙_}
-use mathlib.Core.Bool.{true}
+use mathlib.Core.Path.{_≡_, refl, _∙_}
 use mathlib.Core.Option.{Option, none, some}
 use mathlib.Core.List.{List, map, _++_}
-use Prim.Native.Nat.{ℕ, _+_, _*_, _≤_}
+use Prim.Native.Nat.{ℕ, _+_, _≤_}
 use native.Mathlib.Omega.{arith}
 use lib.ListN.{length, take}
 use Rattle.plans.specs.Execution.{Label, resultOf, Correct}
 use Rattle.lamp_line.specs.declared.ProgramState.{ProgramState}
 use Rattle.lamp_line.specs.declared.WorldState.{WorldState}
-use Rattle.lamp_line.specs.declared.Cabinet.{Cabinet}
 use Rattle.lamp_line.specs.declared.Ending.{Ending}
 use Rattle.lamp_line.specs.declared.Ending.the-variants.{Goal, Failure}
-use Rattle.lamp_line.specs.Tables.{Tables, Line, Fits, Situation, lampProblem, planOf, final}
+use Rattle.lamp_line.specs.Tables.{Situation, lampProblem, planOf, final}
 use Rattle.lamp_line.specs.Refusals.{Rule, refusal, orRefused, answerBy}
 use Rattle.lamp_line.specs.Check.{situation, Accepts, Counterexample, Right}
 use Rattle.lamp_line.specs.Endings.{Ends, Leads}
 use Rattle.lamp_line.specs.Cabinet.{Call, report, begin, Reports}
-use Rattle.lamp_line.specs.Promises.{Run-of, Execution, Served}
+use Rattle.lamp_line.specs.Promises.{Run-of, Execution}
 use Rattle.cabinet_laws.proofs.Following.{cabinet-follows}
 use Rattle.cabinet_laws.proofs.Serving.{cabinet-serves}
 use Rattle.job_layout.specs.declared.Job.{Job}

@@ -1,18 +1,18 @@
 -- The byte at an entry's place is what the tables have there, and the place lies in the file.
-use mathlib.Core.Path.{_≡_, refl, sym, ap, _∙_, subst}
-use mathlib.Core.Bool.{Bool, true, false, cond, _&&_}
-use mathlib.Core.Option.{Option, none, some}
+use mathlib.Core.Path.{_≡_, sym, ap, _∙_, subst}
+use mathlib.Core.Bool.{false}
+use mathlib.Core.Option.{none, some}
 use mathlib.Core.List.{List, [], _∷_}
 use Prim.Native.Nat.{ℕ, _<_, _≤_}
 use borrow.Author.Tests.{lt-ltb, le-ltb, eq-eqb, ne-eqb}
-use lib.Dec.{eqb, ltb}
+use lib.Dec.{eqb}
 use lib.ListN.{length}
 use Rattle.plans.specs.Plan.{Action, Result}
 use Rattle.lamp_line.specs.declared.ProgramState.{ProgramState}
 use Rattle.lamp_line.specs.declared.WorldState.{WorldState}
-use Rattle.lamp_line.specs.Tables.{Outcome, outcome, Tables, programState, worldState, movesOn, columns}
+use Rattle.lamp_line.specs.Tables.{outcome, Tables, programState, worldState, movesOn, columns}
 use Rattle.job_layout.specs.declared.Job.{Job}
-use Rattle.job_layout.specs.Layout.{byte, head, markPlace, nextPlace, resultPlace, startPlace, goalPlace, actionPlace, targetPlace}
+use Rattle.job_layout.specs.Layout.{byte, markPlace, nextPlace, resultPlace, startPlace, goalPlace, actionPlace, targetPlace}
 use Rattle.job_layout.specs.JobTables.{outcomes, branch, tablesBy, tablesOf}
 use Rattle.job_layout.proofs.Bounds as bounds
 use Rattle.job_file.specs.Reading.{Opened}

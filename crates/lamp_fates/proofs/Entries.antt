@@ -14,8 +14,9 @@ use Rattle.lamp_line.specs.declared.Ending.the-variants.{Goal, Failure}
 use Rattle.lamp_line.specs.Tables.{Tables, WellFormed, programState, worldState}
 use Rattle.lamp_line.specs.Endings.{kindNumber}
 use Rattle.lamp_line.specs.Run.{Pair, pair, Move, ends, stays, passes, Walk, ended, arrived, act, lampWalk}
-use Rattle.run_laws.proofs.Pairs.{InRange}
-use Rattle.fate_laws.proofs.Stretches.{far, far-one, far-joined, LeadsInRange, far-in-range}
+use Rattle.run_laws.specs.Pairs.{InRange}
+use Rattle.fate_laws.specs.Stretches.{far}
+use Rattle.fate_laws.proofs.Stretches.{far-one, far-joined, LeadsInRange, far-in-range}
 use Rattle.fate_laws.proofs.Fates.{uncounted, settled, far-fate}
 use Rattle.lamp_fates.specs.FateTable.{fateEntry}
 use Rattle.lamp_fates.specs.ColumnTable.{columnSize, placeOf, pairAt, moveEntry, Entry, nothing, comes-to, followed}

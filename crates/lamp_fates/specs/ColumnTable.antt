@@ -8,7 +8,7 @@ use lib.Dec.{ltb}
 use lib.ListN.{getD}
 use Rattle.lamp_line.specs.Tables.{Tables, WellFormed, programState, worldState}
 use Rattle.lamp_line.specs.Run.{Pair, pair, Move, ends, stays, passes, ended, arrived, lampWalk}
-use Rattle.fate_laws.proofs.Stretches.{far}
+use Rattle.fate_laws.specs.Stretches.{far}
 use Rattle.lamp_fates.specs.FateTable.{fateEntry}
 
 -- How many entries a column has for so many program states and the final one.

@@ -10,7 +10,7 @@ use Rattle.lamp_line.specs.declared.Ending.{Ending}
 use Rattle.lamp_line.specs.declared.Ending.the-variants.{Goal, Failure}
 use Rattle.lamp_line.specs.Run.{Pair, ends, stays, passes, Walk, ended, arrived, ownSteps, act, walk, lampWalk}
 use Rattle.lamp_line.proofs.Products.{product-le}
-use Rattle.run_laws.proofs.Pairs.{InRange}
+use Rattle.run_laws.specs.Pairs.{InRange}
 use Rattle.run_laws.proofs.Actions.{stays-in-range}
 use Rattle.run_laws.proofs.LoopLaws.{WalkOwes, walk-owes-start, walk-owes-stays, walk-owes-passes, walk-owes-ends, walk-owes-spent}
 use Rattle.job_layout.specs.declared.Job.{Job}

@@ -14,7 +14,7 @@ use Rattle.lamp_line.specs.declared.Ending.{Ending}
 use Rattle.lamp_line.specs.Tables.{Tables, Kinds, column, columns, lampColumn, endKinds}
 use Rattle.lamp_line.specs.Refusals.{some-of}
 use Rattle.lamp_line.specs.Run.{Pair, pair, ended, arrived, ran, stopped, lampWalk, along, run, limited}
-use Rattle.run_laws.proofs.Pairs.{InRange}
+use Rattle.run_laws.specs.Pairs.{InRange}
 use Rattle.run_laws.proofs.Walks.{arrived-in-range, arrived-at-lamp}
 use Rattle.run_laws.proofs.LoopLaws.{RunOwes, run-owes-start, run-owes-passes, run-owes-ends, run-owes-stopped}
 use Rattle.job_layout.specs.declared.Job.{Job}

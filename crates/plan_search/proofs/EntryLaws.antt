@@ -7,7 +7,7 @@ use native.Mathlib.Numerals.{add-one}
 use native.Mathlib.Omega.{arith}
 use lib.ListN.{length, getD, take, drop, set, take-append-drop, List·getD-append}
 use lib.Seq.{length-take-le, take-suc, take-suc-set, getD-take}
-use Rattle.search_laws.proofs.Lex.{_▸_}
+use Rattle.search_laws.specs.Lists.{_▸_}
 use Rattle.search_laws.proofs.Table.{Entry, entry, entryAt, node, start, path}
 use Rattle.search_laws.proofs.Grown.{grown, onward, grown-length, grown-new}
 use Rattle.plan_search.specs.declared.Placed.{Placed}

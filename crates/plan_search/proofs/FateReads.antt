@@ -14,7 +14,7 @@ use Rattle.lamp_line.specs.Run.{Pair, pair, Walk, ended, arrived, lampWalk}
 use Rattle.job_layout.specs.declared.Job.{Job}
 use Rattle.job_layout.specs.JobTables.{tablesOf}
 use Rattle.job_tables.proofs.Ranges.{states-are, worlds-are, kinds-are, well-formed}
-use Rattle.run_laws.proofs.Pairs.{pairNumber}
+use Rattle.run_laws.specs.Pairs.{pairNumber}
 use Rattle.run_laws.proofs.Walks.{arrived-in-range}
 use Rattle.lamp_fates.specs.FateTable.{fatePlace, fateEntry, HoldsFates}
 use Rattle.check_laws.specs.Fates.{pairOf, arrives, fateOf, fate}

@@ -8,9 +8,10 @@ use lib.ListN.{getD, take, set}
 use Rattle.lamp_line.specs.declared.FailureKind.{FailureKind}
 use Rattle.lamp_line.specs.Tables.{Tables, WellFormed, lampColumn, worldState}
 use Rattle.lamp_line.specs.Check.{Counterexample}
-use Rattle.run_laws.proofs.Actions.{lineOf}
-use Rattle.search_laws.proofs.Lex.{_▸_}
-use Rattle.search_laws.proofs.Graph.{Kind, reach-below}
+use Rattle.run_laws.specs.Lines.{lineOf}
+use Rattle.search_laws.specs.Lists.{_▸_}
+use Rattle.search_laws.specs.Graph.{Kind}
+use Rattle.search_laws.proofs.Graph.{reach-below}
 use Rattle.search_laws.proofs.Table.{Entry, node, start, path}
 use Rattle.search_laws.proofs.Grown.{grown, onward}
 use Rattle.search_laws.proofs.Turns.{At}

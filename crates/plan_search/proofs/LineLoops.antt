@@ -8,7 +8,7 @@ use native.Mathlib.Numerals.{add-one}
 use native.Mathlib.Omega.{arith}
 use lib.ListN.{length, getD, set, drop, length-append, length-set}
 use lib.Seq.{drop-cons, getD-set-same, drop-set-lt}
-use Rattle.search_laws.proofs.Lex.{_▸_}
+use Rattle.search_laws.specs.Lists.{_▸_}
 use Rattle.search_laws.proofs.Graph.{snoc-append}
 use Rattle.search_laws.proofs.Table.{start, path}
 use Rattle.plan_search.specs.declared.Placed.{Placed}

@@ -14,8 +14,8 @@ use Rattle.job_layout.specs.declared.Job.{Job}
 use Rattle.job_layout.specs.JobTables.{tablesOf}
 use Rattle.job_file.specs.Reading.{Opened}
 use Rattle.job_tables.proofs.Ranges.{states-are, worlds-are}
-use Rattle.run_laws.proofs.Actions.{lineOf}
-use Rattle.search_laws.proofs.Lex.{_▸_}
+use Rattle.run_laws.specs.Lines.{lineOf}
+use Rattle.search_laws.specs.Lists.{_▸_}
 use Rattle.search_laws.proofs.Table.{start, path}
 use Rattle.plan_search.specs.declared.Halted.{Halted}
 use Rattle.plan_search.specs.declared.Halted.the-variants.{Through, AtStart, AtLamp, Long}

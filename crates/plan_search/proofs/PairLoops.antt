@@ -16,7 +16,7 @@ use Rattle.job_layout.specs.declared.Job.{Job}
 use Rattle.job_layout.specs.JobTables.{tablesOf}
 use Rattle.job_tables.proofs.Ranges.{states-are, worlds-are, kinds-are}
 use Rattle.pair_bits.specs.Bits.{countTo, Cleared}
-use Rattle.run_laws.proofs.Actions.{lineOf}
+use Rattle.run_laws.specs.Lines.{lineOf}
 use Rattle.search_laws.proofs.Turns.{At, turn-next}
 use Rattle.check_laws.proofs.TableGraph.{graph}
 use Rattle.check_laws.proofs.RightAnswers.{table-right}

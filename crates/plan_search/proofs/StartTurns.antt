@@ -14,8 +14,8 @@ use Rattle.job_layout.specs.declared.Job.{Job}
 use Rattle.job_layout.specs.JobTables.{tablesOf}
 use Rattle.job_file.specs.Reading.{Opened}
 use Rattle.job_tables.proofs.Ranges.{first-is, worlds-are}
-use Rattle.run_laws.proofs.Actions.{lineOf}
-use Rattle.run_laws.proofs.Pairs.{pairNumber}
+use Rattle.run_laws.specs.Lines.{lineOf}
+use Rattle.run_laws.specs.Pairs.{pairNumber}
 use Rattle.search_laws.proofs.Table.{Entry, entry, node, start}
 use Rattle.search_laws.proofs.Grown.{grown}
 use Rattle.search_laws.proofs.Begin.{Begun, begin-empty}

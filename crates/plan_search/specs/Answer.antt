@@ -8,8 +8,8 @@ use Rattle.lamp_line.specs.declared.WorldState.{WorldState}
 use Rattle.lamp_line.specs.Tables.{Tables, worldState}
 use Rattle.lamp_line.specs.Check.{Counterexample, Accepts}
 use Rattle.job_layout.specs.declared.Job.{Job}
-use Rattle.run_laws.proofs.Actions.{lineOf}
-use Rattle.search_laws.proofs.Lex.{_▸_}
+use Rattle.run_laws.specs.Lines.{lineOf}
+use Rattle.search_laws.specs.Lists.{_▸_}
 use Rattle.search_laws.proofs.Table.{start, path}
 use Rattle.plan_search.specs.declared.Halted.{Halted}
 use Rattle.plan_search.specs.declared.Halted.the-variants as halted

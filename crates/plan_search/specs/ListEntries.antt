@@ -3,7 +3,7 @@
 use mathlib.Core.List.{List, [], _∷_}
 use Prim.Native.Nat.{ℕ, zero, suc, _+_, _*_, _/_, _%_, _≤_, _<_}
 use lib.ListN.{length, getD}
-use Rattle.search_laws.proofs.Lex.{_▸_}
+use Rattle.search_laws.specs.Lists.{_▸_}
 use Rattle.search_laws.proofs.Table.{Entry, entry, start, path}
 use Rattle.search_laws.proofs.Grown.{grown}
 use Rattle.plan_search.specs.declared.Placed.{Placed}

@@ -13,8 +13,8 @@ use Rattle.job_layout.specs.JobTables.{tablesOf}
 use Rattle.job_file.specs.Reading.{Opened}
 use Rattle.lamp_fates.specs.FateTable.{HoldsFates}
 use Rattle.pair_bits.specs.Bits.{bitAt, countTo, OnlySet}
-use Rattle.run_laws.proofs.Actions.{lineOf}
-use Rattle.search_laws.proofs.Lex.{_▸_}
+use Rattle.run_laws.specs.Lines.{lineOf}
+use Rattle.search_laws.specs.Lists.{_▸_}
 use Rattle.search_laws.proofs.Table.{node, start, path}
 use Rattle.search_laws.proofs.Turns.{At}
 use Rattle.search_laws.proofs.Begin.{Begun}

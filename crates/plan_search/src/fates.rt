@@ -4,7 +4,7 @@ ghost use mathlib.Core.Path.{_≡_};
 ghost use Prim.Native.Nat.{ℕ, _≤_, _<_};
 ghost use Rattle.lamp_line.specs.Run.{pair, ended};
 ghost use Rattle.job_layout.specs.JobTables.{tablesOf};
-ghost use Rattle.run_laws.proofs.Pairs.{pairNumber};
+ghost use Rattle.run_laws.specs.Pairs.{pairNumber};
 ghost use Rattle.lamp_walk.specs.WalkAnswers.{walkOf};
 ghost use Rattle.check_laws.specs.Fates.{fateOf, fate};
 ghost use Rattle.plan_search.specs.FateReading.{fateTo, fateFrom};

@@ -23,9 +23,9 @@ use pair_bits::count_bits;
 use pair_bits::is_set;
 use pair_bits::set_bit;
 
-pub mod fates;
-pub mod line;
-pub mod list;
+mod fates;
+mod line;
+mod list;
 
 // A pair in the working list: its number, the place of its parent and the kind of the lamp passed from there. For a start the
 // kind is 0, and the parent is the start's world state.

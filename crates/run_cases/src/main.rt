@@ -155,7 +155,13 @@ fn variants() {
 }
 
 fn small_jobs() {
-    run(b"a state that comes again with other worlds", &counting(), 0, b"", 100);
+    run(
+        b"a state that comes again with other worlds",
+        &counting(),
+        0,
+        b"",
+        100,
+    );
     run(b"state S before circling", &one_step(), 0, b"", 100);
     run(b"final at once, [1,1,1]", &at_once(), 0, b"\x01\x01\x01", 0);
     run(b"final at once, empty line", &at_once(), 0, b"", 0);
@@ -173,7 +179,13 @@ fn whole_file_and_line_first() {
     let mut file = bench();
     file[107] = 2;
     run(b"goal byte 2, start not marked", &file, 1, b"\x01", 100);
-    run(b"a bad kind behind the end of the run", &at_once(), 0, b"\x01\x09", 100);
+    run(
+        b"a bad kind behind the end of the run",
+        &at_once(),
+        0,
+        b"\x01\x09",
+        100,
+    );
 }
 
 fn long_lines() {

@@ -23,12 +23,9 @@ use Rattle.lamp_line.specs.Endings.{Ends}
 use Rattle.lamp_line.specs.Check.{situation}
 use Rattle.lamp_line.specs.Run.{Pair, pair, Move, ends, stays, passes, isFinal, judged, branched, tried, act}
 use Rattle.plans.proofs.Executions.{Halted}
-use Rattle.run_laws.proofs.Pairs.{InRange}
+use Rattle.run_laws.specs.Pairs.{InRange}
+use Rattle.run_laws.specs.Lines.{lineOf}
 use Rattle.run_laws.proofs.Steps.{none-in-empty, one-outcome, step-in-range}
-
--- The line with this end and these lamps.
-abbrev pub lineOf : ℕ → List ℕ → Line
-lineOf end lamps = record { lamps = lamps; end = end }
 
 -- The first of a list is in it.
 first-in : {A : Type 0} (x : A) (l more : List A) → l ≡ x ∷ more → x ∈ l

@@ -14,7 +14,8 @@ use Rattle.lamp_line.specs.Check.{situation}
 use Rattle.lamp_line.specs.Run.{Pair, Move, ends, stays, passes, act}
 use Rattle.plans.proofs.Pigeonhole.{Repeat, pigeonhole}
 use Rattle.plans.proofs.Executions.{first-steps, same-length-same-execution}
-use Rattle.run_laws.proofs.Pairs.{InRange, pairNumber, pair-number-bound, pair-number-injective}
+use Rattle.run_laws.specs.Pairs.{InRange, pairNumber}
+use Rattle.run_laws.proofs.Pairs.{pair-number-bound, pair-number-injective}
 use Rattle.run_laws.proofs.Steps.{steps-determined}
 use Rattle.run_laws.proofs.Actions.{StepAt, MoveMeans, is-final, act-final, act-means, stays-in-range}
 use Rattle.run_laws.proofs.Walks.{Lingers, not-ended, stays-on}

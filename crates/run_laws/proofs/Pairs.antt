@@ -1,19 +1,12 @@
 -- Pairs of a program state and a world state as numbers: the pairs whose state is not final are numbered below S·W, each with a
 -- number of its own.
 use mathlib.Core.Path.{_≡_, sym, ap, ap₂, _∙_}
-use Prim.Native.Nat.{ℕ, _+_, _*_, _/_, _≤_, _<_}
+use Prim.Native.Nat.{ℕ, _+_, _*_, _/_, _<_}
 use native.Mathlib.Nat.{add-zero, mul-le-mul-right, suc-mul, mul-add-div-right, div-eq-of-lt}
 use native.Mathlib.Omega.{arith}
-use Rattle.lamp_line.specs.Tables.{Tables, programState, worldState}
+use Rattle.lamp_line.specs.Tables.{programState, worldState}
 use Rattle.lamp_line.specs.Run.{Pair, pair}
-
--- A program state and a world state of the tables.
-pub record InRange (t : Tables) (p : Pair) : Type 0 where
-  pub state-range : p .state .0 ≤ t .states
-  pub world-range : p .world .0 < t .worlds
-
-unfoldable pub pairNumber : ℕ → Pair → ℕ
-pairNumber worlds p = p .state .0 * worlds + p .world .0
+use Rattle.run_laws.specs.Pairs.{pairNumber}
 
 -- The number of a pair whose state is not final is below S·W.
 pub pair-number-bound :

@@ -17,9 +17,9 @@ use Rattle.lamp_line.specs.Endings.{Ends}
 use Rattle.lamp_line.specs.Check.{situation, Arrival}
 use Rattle.lamp_line.specs.Run.{Pair, pair, Walk, ended, arrived, Run, ran, lampWalk, along, run}
 use Rattle.lamp_line.specs.Promises.{Run-of, Execution, RestsAfter, Comes}
-use Rattle.run_laws.proofs.Pairs.{InRange}
+use Rattle.run_laws.specs.Pairs.{InRange}
 use Rattle.run_laws.proofs.Steps.{execution-in-range}
-use Rattle.run_laws.proofs.Actions.{lineOf}
+use Rattle.run_laws.specs.Lines.{lineOf}
 use Rattle.run_laws.proofs.Walks.{WalkMeans, rests, lingers, Arrives, arrives, walk-means, arrived-at-lamp}
 use Rattle.run_laws.proofs.Circling.{lingers-forever, lingers-passes-none}
 use Rattle.run_laws.proofs.Runs.{runAfter, along-ends, along-passes}

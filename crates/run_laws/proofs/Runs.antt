@@ -11,7 +11,7 @@ use Rattle.lamp_line.specs.Tables.{Tables, WellFormed, lampColumn, column}
 use Rattle.lamp_line.specs.Run.{Pair, pair, Move, ends, stays, passes, Walk, ended, arrived, Run, ran}
 use Rattle.lamp_line.specs.Run.{act, walk, lampWalk, along}
 use Rattle.lamp_line.specs.Promises.{RunIsBounded}
-use Rattle.run_laws.proofs.Actions.{lineOf}
+use Rattle.run_laws.specs.Lines.{lineOf}
 use Rattle.run_laws.proofs.Walks.{counts-at-most-one, walkAfter, walk-ends, walk-stays, walk-passes}
 
 -- ---- the run lamp by lamp

@@ -16,7 +16,7 @@ use Rattle.lamp_line.specs.Tables.{outcome, Tables, Situation, WellFormed, move
 use Rattle.lamp_line.specs.Check.{situation}
 use Rattle.lamp_line.specs.Run.{pair}
 use Rattle.plans.proofs.Executions.{StepsDetermined}
-use Rattle.run_laws.proofs.Pairs.{InRange}
+use Rattle.run_laws.specs.Pairs.{InRange}
 
 -- Nothing is in an empty list.
 pub none-in-empty : {A : Type 0} (x : A) (l : List A) → l ≡ [] → ¬ (x ∈ l)

@@ -15,9 +15,10 @@ use Rattle.lamp_line.specs.declared.Ending.{Ending}
 use Rattle.lamp_line.specs.declared.Ending.the-variants.{Goal, Failure}
 use Rattle.lamp_line.specs.Tables.{Tables, WellFormed, Line, final, movesOn, column, passed, endKinds}
 use Rattle.lamp_line.specs.Run.{Pair, Move, ends, stays, passes, Walk, ended, arrived, isFinal, judged, act, ownSteps, walk}
-use Rattle.run_laws.proofs.Pairs.{InRange}
+use Rattle.run_laws.specs.Pairs.{InRange}
 use Rattle.run_laws.proofs.Steps.{step-in-range, step-passes}
-use Rattle.run_laws.proofs.Actions.{lineOf, StepAt, ExecutionAt, EndsAt, MoveMeans, act-final, act-means}
+use Rattle.run_laws.specs.Lines.{lineOf}
+use Rattle.run_laws.proofs.Actions.{StepAt, ExecutionAt, EndsAt, MoveMeans, act-final, act-means}
 
 -- ---- what an ending counts
 

@@ -6,9 +6,11 @@ use Prim.Native.Nat.{ℕ, _+_, _≤_, _<_}
 use native.Mathlib.Omega.{arith}
 use lib.ListN.{length}
 use Rattle.lamp_line.specs.Lists.{_≼_}
-use Rattle.search_laws.proofs.Lex.{_≺_, ≺-irrefl}
+use Rattle.search_laws.specs.Lists.{_≺_}
+use Rattle.search_laws.proofs.Lex.{≺-irrefl}
 use Rattle.search_laws.proofs.Keys.{key, stem-start}
-use Rattle.search_laws.proofs.Graph.{Graph, Least, Plain, lowest-end-first}
+use Rattle.search_laws.specs.Graph.{Graph, Plain}
+use Rattle.search_laws.proofs.Graph.{Least, lowest-end-first}
 use Rattle.search_laws.proofs.Table.{Entry, entry, entryAt, node, start, stemOf}
 use Rattle.search_laws.proofs.Grown.{grown, grown-length, grown-new}
 use Rattle.search_laws.proofs.Starts.{StartsTaken, Early, early, skip-start, take-start, early-least, starts-tested}

@@ -2,69 +2,33 @@
 -- of lamp, and a node may fail there besides.
 use mathlib.Core.Path.{_≡_, sym, subst}
 use mathlib.Core.List.{List, [], _∷_, _++_, append-assoc}
-use Prim.Native.Nat.{ℕ, _≤_, _<_}
+use Prim.Native.Nat.{ℕ, _<_}
 use native.Mathlib.Decide.{decLt, ℕ-discrete}
 use native.Mathlib.Omega.{arith}
 use Rattle.lamp_line.specs.Lists.{_≼_}
 use Rattle.lamp_line.specs.Tables.{Kinds}
-use Rattle.search_laws.proofs.Lex.{_▸_, ≼-refl}
+use Rattle.search_laws.specs.Lists.{_▸_}
+use Rattle.search_laws.proofs.Lex.{≼-refl}
 use Rattle.search_laws.proofs.Keys.{key, key-lower-end}
-
--- Lines go through the graph from a start, lamp by lamp.
-pub record Graph : Type 1 where
-  -- Lamps have the kinds 1 to `kinds`, ends of lines the kinds below `ends`.
-  pub kinds : ℕ
-  pub ends : ℕ
-  -- A start, and a node with which it begins.
-  pub Start : ℕ → ℕ → Type 0
-  -- A node, a kind of lamp, and a node at the next lamp.
-  pub To : ℕ → ℕ → ℕ → Type 0
-  -- A node, a kind of lamp, and a kind of failure there.
-  pub Bad : ℕ → ℕ → ℕ → Type 0
-  -- A node, a kind of end, and a kind of failure there.
-  pub BadEnd : ℕ → ℕ → ℕ → Type 0
-
--- A kind of lamp.
-pub record Kind (kinds c : ℕ) : Type 0 where
-  pub low : 1 ≤ c
-  pub high : c ≤ kinds
+use Rattle.search_laws.specs.Graph.{Graph, Fails, goes-on, Reach, from-start, past-lamp, FailsFrom, Plain}
 
 -- A lamp behind a line is the first of what follows it.
 pub snoc-append : (p : List ℕ) (c : ℕ) (r : List ℕ) → (p ▸ c) ++ r ≡ p ++ (c ∷ r)
 snoc-append p c r = append-assoc p (c ∷ []) r
 
 module _ (g : Graph) where
-  -- From the node the line with these lamps and this end fails, with this kind of failure.
-  pub data Fails : ℕ → List ℕ → ℕ → ℕ → Type 0 where
-    bad-end : {x e f : ℕ} → g .BadEnd x e f → Fails x [] e f
-    bad-lamp : {x c e f : ℕ} {l : List ℕ} → g .Bad x c f → Fails x (c ∷ l) e f
-    goes-on : {x c y e f : ℕ} {l : List ℕ} → g .To x c y → Fails y l e f → Fails x (c ∷ l) e f
-
-  -- From the start, past these lamps, the node is reached.
-  pub data Reach : ℕ → List ℕ → ℕ → Type 0 where
-    from-start : {s x : ℕ} → g .Start s x → Reach s [] x
-    past-lamp : {s x c y : ℕ} {p : List ℕ} → Reach s p x → Kind (g .kinds) c → g .To x c y → Reach s (p ▸ c) y
-
-  -- From the start the line fails.
-  pub record FailsFrom (s : ℕ) (l : List ℕ) (e f : ℕ) : Type 0 where
-    pub first : ℕ
-    pub start : g .Start s first
-    pub of-kinds : Kinds (g .kinds) l
-    pub ended : e < g .ends
-    pub fails : Fails first l e f
-
   -- The line fails, and comes first of all failures.
   pub record Least (l : List ℕ) (e s f : ℕ) : Type 0 where
-    pub fails : FailsFrom s l e f
-    pub least : (s′ : ℕ) (l′ : List ℕ) (e′ f′ : ℕ) → FailsFrom s′ l′ e′ f′ → key l e s f ≼ key l′ e′ s′ f′
+    pub fails : FailsFrom g s l e f
+    pub least : (s′ : ℕ) (l′ : List ℕ) (e′ f′ : ℕ) → FailsFrom g s′ l′ e′ f′ → key l e s f ≼ key l′ e′ s′ f′
 
   -- Where a node is reached, and a line fails from it, the lamps passed and that line fail from the start.
   pub reach-fails :
-      {s x e f : ℕ} {p r : List ℕ} → Reach s p x → Kinds (g .kinds) r → e < g .ends → Fails x r e f → FailsFrom s (p ++ r) e f
+      {s x e f : ℕ} {p r : List ℕ} → Reach g s p x → Kinds (g .kinds) r → e < g .ends → Fails g x r e f → FailsFrom g s (p ++ r) e f
   unfolding Kinds
   reach-fails (from-start h) v l d = record { first = _; start = h; of-kinds = v; ended = l; fails = d }
   reach-fails {e = e} {f = f} {r = r} (past-lamp {s = s} {c = c} {p = p} h k t) v l d =
-      subst (λ (z : List ℕ). FailsFrom s z e f) (sym (snoc-append p c r))
+      subst (λ (z : List ℕ). FailsFrom g s z e f) (sym (snoc-append p c r))
       (reach-fails h (k .low, k .high, v) l (goes-on t d))
 
 -- The nodes that are reached are below a number, if the starts' nodes and those behind edges are.
@@ -73,16 +37,6 @@ pub reach-below :
     {s x : ℕ} {p : List ℕ} → Reach g s p x → x < N
 reach-below g N start to (from-start {s = s} {x = x} h) = start s x h
 reach-below g N start to (past-lamp {x = x} {c = c} {y = y} r k t) = to x c y t
-
--- Each start has one node of its own; at a kind of lamp a node has one edge or one failure at most, and at a kind of end one
--- failure.
-pub record Plain (g : Graph) : Type 0 where
-  pub start-one : (s x x′ : ℕ) → g .Start s x → g .Start s x′ → x ≡ x′
-  pub start-own : (s s′ x : ℕ) → g .Start s x → g .Start s′ x → s ≡ s′
-  pub to-one : (x c y y′ : ℕ) → g .To x c y → g .To x c y′ → y ≡ y′
-  pub bad-one : (x c f f′ : ℕ) → g .Bad x c f → g .Bad x c f′ → f ≡ f′
-  pub bad-to : (x c f y : ℕ) → g .Bad x c f → ¬ (g .To x c y)
-  pub end-one : (x e f f′ : ℕ) → g .BadEnd x e f → g .BadEnd x e f′ → f ≡ f′
 
 -- Of the failures of one node at the ends, the one at the lowest end comes first.
 pub lowest-end-first :

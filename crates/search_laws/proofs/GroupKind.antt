@@ -8,9 +8,11 @@ use native.Mathlib.Omega.{arith}
 use lib.ListN.{length}
 use Rattle.lamp_line.specs.Lists.{_≼_}
 use Rattle.lamp_line.specs.Tables.{Kinds}
-use Rattle.search_laws.proofs.Lex.{_▸_, _≺_, ≼-trans, ≺-trans}
+use Rattle.search_laws.specs.Lists.{_▸_, _≺_}
+use Rattle.search_laws.proofs.Lex.{≼-trans, ≺-trans}
 use Rattle.search_laws.proofs.Keys.{stem, key, stem-more, stem-more-less, stem-kind-less, key-by-stem}
-use Rattle.search_laws.proofs.Graph.{Graph, Kind, bad-end, bad-lamp, FailsFrom, Least, reach-fails}
+use Rattle.search_laws.specs.Graph.{Graph, Kind, bad-end, bad-lamp, FailsFrom}
+use Rattle.search_laws.proofs.Graph.{Least, reach-fails}
 use Rattle.search_laws.proofs.Table.{Entry, node, start, path, stemOf, keyOn, stemOn}
 use Rattle.search_laws.proofs.Table.{Open, untried, lamp-fails, end-fails, fails-open}
 use Rattle.search_laws.proofs.Grown.{below-or-not, below-or-last}

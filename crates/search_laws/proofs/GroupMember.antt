@@ -6,9 +6,10 @@ use Prim.Native.Nat.{ℕ, _+_, _≤_, _<_}
 use native.Mathlib.Omega.{arith}
 use lib.ListN.{length, length-append}
 use Rattle.lamp_line.specs.Lists.{_≼_}
-use Rattle.search_laws.proofs.Lex.{_▸_, _≺_, ≼-refl}
+use Rattle.search_laws.specs.Lists.{_▸_, _≺_}
+use Rattle.search_laws.proofs.Lex.{≼-refl}
 use Rattle.search_laws.proofs.Keys.{stem, lineKey, stem-longer, stem-more, key-by-stem, key-more}
-use Rattle.search_laws.proofs.Graph.{Graph, Kind, Reach, past-lamp}
+use Rattle.search_laws.specs.Graph.{Graph, Kind, Reach, past-lamp}
 use Rattle.search_laws.proofs.Table.{Entry, entryKey, entryStem, entryAt, node, start, path, keyOf, stemOf, keyOn, stemOn}
 use Rattle.search_laws.proofs.Table.{Known}
 use Rattle.search_laws.proofs.Grown.{below-or-not, below-or-last, grown, onward, grown-length, still-at, was-at}

@@ -8,7 +8,8 @@ use native.Mathlib.Omega.{arith}
 use lib.ListN.{length, length-append, List·getD-append}
 use lib.Seq.{getD-append-seam}
 use Rattle.lamp_line.specs.Lists.{_≼_}
-use Rattle.search_laws.proofs.Lex.{_▸_, ≼-refl}
+use Rattle.search_laws.specs.Lists.{_▸_}
+use Rattle.search_laws.proofs.Lex.{≼-refl}
 use Rattle.search_laws.proofs.Keys.{lineKey}
 use Rattle.search_laws.proofs.Table.{Entry, entry, entryKey, entryAt, start, path, Known}
 

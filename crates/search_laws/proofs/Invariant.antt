@@ -8,8 +8,8 @@ use native.Mathlib.Decide.{decLt, ℕ-discrete}
 use native.Mathlib.Omega.{arith}
 use lib.ListN.{length}
 use Rattle.lamp_line.specs.Lists.{_≼_}
-use Rattle.search_laws.proofs.Lex.{_≺_}
-use Rattle.search_laws.proofs.Graph.{Graph, Kind, Reach}
+use Rattle.search_laws.specs.Lists.{_≺_}
+use Rattle.search_laws.specs.Graph.{Graph, Kind, Reach}
 use Rattle.search_laws.proofs.Table.{Entry, node, start, path, keyOf, stemOf, keyOn, stemOn, Covers}
 
 -- The entry i was tried with the kind c, where the group from a to b has been tried with the kinds below k and, up to the entry

@@ -7,7 +7,8 @@ use Prim.Native.Nat.{ℕ, zero, suc, _≤_, _<_}
 use native.Mathlib.Omega.{arith}
 use lib.ListN.{length, length-append}
 use Rattle.lamp_line.specs.Lists.{_≼_}
-use Rattle.search_laws.proofs.Lex.{_▸_, _≺_, ≼-refl, ≼-behind, ≼-single, ≼-split, ≺→≼, ≺-append, ≺-last}
+use Rattle.search_laws.specs.Lists.{_▸_, _≺_}
+use Rattle.search_laws.proofs.Lex.{≼-refl, ≼-behind, ≼-single, ≼-split, ≺→≼, ≺-append, ≺-last}
 
 -- ---- where the start is compared
 

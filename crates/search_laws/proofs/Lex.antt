@@ -7,18 +7,7 @@ use native.Mathlib.Decide.{decLt}
 use native.Mathlib.Omega.{arith}
 use lib.ListN.{length}
 use Rattle.lamp_line.specs.Lists.{_≼_}
-
--- A list with one more number behind it.
-infixl 60 _▸_
-abbrev pub _▸_ : List ℕ → ℕ → List ℕ
-p ▸ c = p ++ (c ∷ [])
-
--- The lists differ at a place that both have, and at the first such place the earlier list has the lower number.
-infix 50 _≺_
-unfoldable pub _≺_ : List ℕ → List ℕ → Type 0
-[] ≺ m = ⊥
-(a ∷ l) ≺ [] = ⊥
-(a ∷ l) ≺ (b ∷ m) = (a < b) ⊎ ((a ≡ b) × (l ≺ m))
+use Rattle.search_laws.specs.Lists.{_▸_, _≺_}
 
 -- ---- the order
 

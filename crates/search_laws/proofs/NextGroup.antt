@@ -7,9 +7,10 @@ use Prim.Native.Nat.{ℕ, _+_, _≤_, _<_}
 use native.Mathlib.Omega.{arith}
 use lib.ListN.{length, length-append}
 use Rattle.lamp_line.specs.Lists.{_≼_}
-use Rattle.search_laws.proofs.Lex.{_▸_, _≺_, ≺-trans}
+use Rattle.search_laws.specs.Lists.{_▸_, _≺_}
+use Rattle.search_laws.proofs.Lex.{≺-trans}
 use Rattle.search_laws.proofs.Keys.{key, stem-more-less, key-stems, key-length}
-use Rattle.search_laws.proofs.Graph.{Graph, Kind, Reach, FailsFrom}
+use Rattle.search_laws.specs.Graph.{Graph, Kind, Reach, FailsFrom}
 use Rattle.search_laws.proofs.Table.{Entry, node, start, path, keyOf, stemOf, keyOn, Known}
 use Rattle.search_laws.proofs.Table.{Open, untried, lamp-fails, end-fails, fails-open, reach-known}
 use Rattle.search_laws.proofs.Grown.{below-or-not, below-or-last}

@@ -9,7 +9,8 @@ use lib.ListN.{length, take, drop, length-append, length-take, length-drop}
 use Rattle.lamp_line.specs.Tables.{Kinds}
 use Rattle.plans.proofs.Pigeonhole.{Repeat, pigeonhole}
 use Rattle.search_laws.proofs.Keys.{key-length}
-use Rattle.search_laws.proofs.Graph.{Graph, Fails, bad-end, bad-lamp, goes-on, FailsFrom, Least}
+use Rattle.search_laws.specs.Graph.{Graph, Fails, bad-end, bad-lamp, goes-on, FailsFrom}
+use Rattle.search_laws.proofs.Graph.{Least}
 
 -- ---- the kinds of a part of a line
 

@@ -7,9 +7,11 @@ use native.Mathlib.Omega.{arith}
 use lib.ListN.{length, length-append}
 use Rattle.lamp_line.specs.Lists.{_≼_}
 use Rattle.lamp_line.specs.Tables.{Kinds}
-use Rattle.search_laws.proofs.Lex.{_▸_, _≺_, ≼-trans}
+use Rattle.search_laws.specs.Lists.{_▸_, _≺_}
+use Rattle.search_laws.proofs.Lex.{≼-trans}
 use Rattle.search_laws.proofs.Keys.{stem, key, lineKey, stem-longer, key-by-stem, key-start, key-end}
-use Rattle.search_laws.proofs.Graph.{Graph, Kind, Fails, bad-end, Reach, from-start, FailsFrom, Least}
+use Rattle.search_laws.specs.Graph.{Graph, Kind, Fails, bad-end, Reach, from-start, FailsFrom}
+use Rattle.search_laws.proofs.Graph.{Least}
 use Rattle.search_laws.proofs.Table.{Entry, entry, node, start, path, keyOf, stemOf, Known}
 use Rattle.search_laws.proofs.Grown.{below-or-not, below-or-last, grown, grown-length, was-at, grown-all, grown-pairs}
 use Rattle.search_laws.proofs.Grown.{known-grown, known-new}

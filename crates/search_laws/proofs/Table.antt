@@ -7,10 +7,12 @@ use native.Mathlib.Omega.{arith}
 use lib.ListN.{length, getD}
 use Rattle.lamp_line.specs.Lists.{_≼_}
 use Rattle.lamp_line.specs.Tables.{Kinds}
-use Rattle.search_laws.proofs.Lex.{_▸_, ≼-trans}
+use Rattle.search_laws.specs.Lists.{_▸_}
+use Rattle.search_laws.proofs.Lex.{≼-trans}
 use Rattle.search_laws.proofs.Keys.{stem, key, lineKey, key-more, key-end, key-prefix}
-use Rattle.search_laws.proofs.Graph.{Graph, Kind, Fails, bad-end, bad-lamp, goes-on, Reach, from-start, past-lamp}
-use Rattle.search_laws.proofs.Graph.{FailsFrom, snoc-append}
+use Rattle.search_laws.specs.Graph.{Graph, Kind, Fails, bad-end, bad-lamp, goes-on, Reach, from-start, past-lamp}
+use Rattle.search_laws.specs.Graph.{FailsFrom}
+use Rattle.search_laws.proofs.Graph.{snoc-append}
 
 -- A node, and the start and the lamps by which it was found.
 pub record Entry : Type 0 where

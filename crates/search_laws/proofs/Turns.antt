@@ -7,9 +7,11 @@ use Prim.Native.Nat.{ℕ, _+_, _≤_, _<_}
 use native.Mathlib.Omega.{arith}
 use lib.ListN.{length}
 use Rattle.lamp_line.specs.Lists.{_≼_}
-use Rattle.search_laws.proofs.Lex.{_▸_, _≺_, ≼-refl, ≺-irrefl}
+use Rattle.search_laws.specs.Lists.{_▸_, _≺_}
+use Rattle.search_laws.proofs.Lex.{≼-refl, ≺-irrefl}
 use Rattle.search_laws.proofs.Keys.{key}
-use Rattle.search_laws.proofs.Graph.{Graph, Kind, Reach, FailsFrom, Least, Plain, lowest-end-first}
+use Rattle.search_laws.specs.Graph.{Graph, Kind, Reach, FailsFrom, Plain}
+use Rattle.search_laws.proofs.Graph.{Least, lowest-end-first}
 use Rattle.search_laws.proofs.Table.{Entry, entryStem, entryAt, node, start, path, stemOf, Known}
 use Rattle.search_laws.proofs.Grown.{grown, onward, grown-length, grown-new, still-at, was-at, grown-pairs, known-new}
 use Rattle.search_laws.proofs.Invariant.{Invariant}

@@ -1,7 +1,7 @@
 -- The check's answer, with buffers of full size, is what is to be printed, and its line fits.
 use borrow.Author.Needs.{needs}
 use mathlib.Core.Path.{subst, _∙_}
-use mathlib.Core.List.{List, [], _∷_}
+use mathlib.Core.List.{[], _∷_}
 use native.Mathlib.Omega.{arith}
 use lib.ListN.{length, take}
 use lib.Seq.{length-take-le}

@@ -1,11 +1,11 @@
 -- The numbers so far are written; the measure is the number of bytes left.
 use borrow.Author.Needs.{needs}
-use mathlib.Core.Path.{_≡_, refl, sym, ap, subst, _∙_}
-use mathlib.Core.List.{List, [], _∷_}
-use Prim.Native.Nat.{ℕ, _+_, _*_, _-_, _≤_, _<_}
+use mathlib.Core.Path.{_≡_, refl, subst, _∙_}
+use mathlib.Core.List.{[], _∷_}
+use Prim.Native.Nat.{_+_, _*_, _-_, _≤_, _<_}
 use native.Mathlib.Omega.{arith}
-use lib.ListN.{length, getD, take}
-use lib.Seq.{take-all, length-take-le}
+use lib.ListN.{length, take}
+use lib.Seq.{take-all}
 use Rattle.answer_line.specs.AnswerLine.{numbers, Wrote}
 use Rattle.answer_line.proofs.Writing.{next-number, wrote-then}
 use Rattle.answer_line.proofs.text.put_bytes.Statement.{statement}

@@ -5,7 +5,7 @@ use native.Mathlib.Nat.{mul-one}
 use native.Mathlib.Omega.{arith}
 use Prim.Native.Nat.{_+_}
 use Rattle.lamp_line.proofs.Products.{product-le}
-use Rattle.run_laws.proofs.Pairs.{pairNumber}
+use Rattle.run_laws.specs.Pairs.{pairNumber}
 use Rattle.plan_search.proofs.fates.pair_number.Statement.{statement}
 use Rattle.plan_search.proofs.fates.pair_number.Tie as tie
 

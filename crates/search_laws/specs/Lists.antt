@@ -1,0 +1,17 @@
+-- Lists of numbers: one more number behind a list, and the strict order by the first difference.
+use mathlib.Core.Path.{_≡_}
+use mathlib.Core.Logic.{_⊎_}
+use mathlib.Core.List.{List, [], _∷_, _++_}
+use Prim.Native.Nat.{ℕ, _<_}
+
+-- A list with one more number behind it.
+infixl 60 _▸_
+abbrev pub _▸_ : List ℕ → ℕ → List ℕ
+p ▸ c = p ++ (c ∷ [])
+
+-- The lists differ at a place that both have, and at the first such place the earlier list has the lower number.
+infix 50 _≺_
+unfoldable pub _≺_ : List ℕ → List ℕ → Type 0
+[] ≺ m = ⊥
+(a ∷ l) ≺ [] = ⊥
+(a ∷ l) ≺ (b ∷ m) = (a < b) ⊎ ((a ≡ b) × (l ≺ m))
