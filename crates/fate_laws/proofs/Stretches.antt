@@ -1,5 +1,5 @@
--- Stretches of actions at one column: what at most n actions in a row come to, as one move. Two stretches put together are one,
--- so that stretches which are doubled again and again soon stand for any number of actions.
+-- Laws of stretches of actions at one column: two stretches put together are one, so that stretches which are doubled again and
+-- again soon stand for any number of actions.
 use mathlib.Core.Path.{_≡_, refl, ap, _∙_}
 use mathlib.Core.List.{[]}
 use Prim.Native.Nat.{ℕ, zero, suc, _+_}

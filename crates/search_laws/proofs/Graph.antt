@@ -1,5 +1,4 @@
--- What the search knows of a plan: a graph of numbered nodes, whose edges pass a lamp. Several edges may leave a node at one kind
--- of lamp, and a node may fail there besides.
+-- Laws of the search's graph: what is reached and then fails, fails from the start; and the least of the failures.
 use mathlib.Core.Path.{_≡_, sym, subst}
 use mathlib.Core.List.{List, [], _∷_, _++_, append-assoc}
 use Prim.Native.Nat.{ℕ, _<_}
