@@ -1,71 +1,21 @@
 /*
- * Reader, one-lamp walk, run, check and cabinet, written from document 01 alone; it shares nothing with crates/. It is
- * the other side of the tests, which compare every answer with it, and of the benchmark, where its walk is the plain
- * loop. So it does each thing in the way the paper says it, and in no cleverer one.
+ * Reader, one-lamp walk, run and cabinet, and in plain_check.c the check, written from document 01 alone; they share nothing
+ * with crates/. They are the other side of the tests, which compare every answer with them, and of the benchmark, where
+ * the walk is the plain loop. So each thing is done in the way the paper says it, and in no cleverer one; the check that
+ * remembers is the exception.
  *
  * "01" in the comments is document 01, followed by the title of the section that is rendered.
  */
 #include "plain.h"
-
-#include <stdbool.h>
+#include "plain_job.h"
 
 enum {
-    HEAD_SIZE = 28,     /* 01, Job file: the first part begins at 28 or later */
-    MOST_FILE = 65535,  /* 01, Who can cause which number: 1 */
-    MOST_LAMPS = 65535, /* 01, One run */
-    NONE = 255,         /* 01, Job file: as a result not legal, as a target no branch */
-    END_COLUMN = 0      /* 01, The line and its tables: the column when no lamp is left */
+    HEAD_SIZE = 28,    /* 01, Job file: the first part begins at 28 or later */
+    MOST_FILE = 65535, /* 01, Who can cause which number: 1 */
+    MOST_LAMPS = 65535 /* 01, One run */
 };
 
 enum { MARKS, CELLS, STARTS, GOAL, PLAN, PARTS };
-
-/* 01, The line and its tables: two sorts of number, and neither may pass for the other. */
-typedef struct { unsigned number; } program_state;
-typedef struct { unsigned number; } world_state;
-
-struct pair {
-    program_state state;
-    world_state world;
-};
-
-/* The numbers of a job, and its five parts, which stay in the file's bytes. */
-struct job {
-    unsigned actions, worlds, columns, results;   /* A, W, C + 1 and R */
-    program_state first, final;                   /* final is S; the states before it are the S non-final ones */
-    size_t action_bytes, world_bytes, row_bytes;  /* the cells of one action, those of one of its worlds, a plan row */
-    const uint8_t *marks, *cells, *starts, *goal, *plan;
-};
-
-/* ---- Answers (nessflurry.h) ---- */
-
-static uint64_t answered(unsigned code, unsigned state, unsigned world, uint32_t count)
-{
-    return (uint64_t)code << 8 | (uint64_t)state << 16 | (uint64_t)world << 24 | (uint64_t)count << 32;
-}
-
-static uint64_t refused(unsigned refusal)
-{
-    return refusal;
-}
-
-/* ---- Places in the tables (01, Job file, parts 2, 4 and 5) ---- */
-
-/* 2·((a·W + w)·(C+1) + c), multiplied out. */
-static const uint8_t *cell_of(const struct job *job, unsigned action, world_state world, unsigned column)
-{
-    return job->cells + action * job->action_bytes + world.number * job->world_bytes + 2 * column;
-}
-
-static bool goal_holds(const struct job *job, world_state world, unsigned column)
-{
-    return job->goal[world.number * job->columns + column] == 1;
-}
-
-/* The plan's row of a non-final state: its action, then a target for each result. */
-static const uint8_t *row_of(const struct job *job, program_state state)
-{
-    return job->plan + state.number * job->row_bytes;
-}
 
 /* ---- The reader (01, Job file; Who can cause which number, 1 to 11) ---- */
 
@@ -198,10 +148,10 @@ static bool targets_in_range(const struct job *job)
 }
 
 /*
- * The job of a file, or the number of its refusal. Each test goes over the whole file before the next begins, so the
- * lowest number that applies is given; and each may rely on those before it.
+ * Each test goes over the whole file before the next begins, so the lowest number that applies is given; and each may
+ * rely on those before it.
  */
-static unsigned read_job(const uint8_t *file, size_t file_size, struct job *job)
+unsigned read_job(const uint8_t *file, size_t file_size, struct job *job)
 {
     if (file_size < HEAD_SIZE || file_size > MOST_FILE)
         return 1;
@@ -245,44 +195,6 @@ uint64_t plain_read(const uint8_t *file, size_t file_size, uint16_t head[16])
 }
 
 /* ---- The walk at one lamp or at the line's end (01, One run) ---- */
-
-/* The end of a walk: its code, the steps counted in this column and, where it arrived at what follows, with which pair. */
-struct walked {
-    unsigned code, steps;
-    struct pair arrived;
-};
-
-static struct walked ended(unsigned code, unsigned steps)
-{
-    return (struct walked){.code = code, .steps = steps};
-}
-
-/*
- * The repetition of 01, One run, until the run ends or the line has one lamp fewer. The tests stand in the order given
- * there: failure 3 just after the final state.
- */
-static struct walked walk(const struct job *job, struct pair at, unsigned column)
-{
-    const unsigned most_steps = job->final.number * job->worlds;
-    for (unsigned steps = 0;; steps++) {
-        if (at.state.number == job->final.number)
-            return ended(goal_holds(job, at.world, column) ? NESSFLURRY_GOAL : NESSFLURRY_GOAL_FALSE, steps);
-        if (steps == most_steps)
-            return ended(NESSFLURRY_CIRCLES, steps);
-        const uint8_t *const row = row_of(job, at.state);
-        const unsigned action = row[0];
-        const uint8_t *const cell = cell_of(job, action, at.world, column);
-        const unsigned result = cell[1];
-        if (result == NONE)
-            return ended(NESSFLURRY_NOT_LEGAL, steps);
-        const unsigned target = row[1 + result];
-        if (target == NONE)
-            return ended(NESSFLURRY_NO_BRANCH, steps);
-        at = (struct pair){{target}, {cell[0]}};
-        if (job->marks[action] == 1)
-            return (struct walked){NESSFLURRY_ARRIVED, steps + 1, at};
-    }
-}
 
 /* 01, Who can cause which number: 14 to 16. A world need not be marked here, as a walk may begin in mid-line. */
 static unsigned walk_refusal(const struct job *job, struct pair at, unsigned column)
@@ -356,177 +268,6 @@ uint64_t plain_run(const uint8_t *file, size_t file_size, uint8_t start, const u
     if (refusal == 0)
         refusal = run_refusal(&job, start, line, lamps);
     return refusal != 0 ? refused(refusal) : run(&job, (world_state){start}, line, lamps, limit);
-}
-
-/* ---- The check (01, The check) ---- */
-
-/*
- * The pairs reached: the working list has them in the order of arrival, the words have one bit for each. An entry of
- * the list is a pair (below 65·64, 13 bits), the place in the list of the pair it was arrived at from (13 bits) and the
- * kind of the lamp passed in between (4 bits), which is 0 for a pair at the beginning.
- */
-struct search {
-    const struct job *job;
-    uint32_t *list;
-    uint64_t *words;
-    uint32_t reached;
-};
-
-static uint32_t entry_of(unsigned pair, uint32_t from, unsigned kind)
-{
-    return pair | from << 13 | (uint32_t)kind << 26;
-}
-
-static unsigned pair_in(uint32_t entry)
-{
-    return entry & 0x1fff;
-}
-
-static uint32_t from_in(uint32_t entry)
-{
-    return entry >> 13 & 0x1fff;
-}
-
-static unsigned kind_in(uint32_t entry)
-{
-    return entry >> 26;
-}
-
-static unsigned pair_count(const struct job *job)
-{
-    return (job->final.number + 1) * job->worlds;
-}
-
-static unsigned word_count(const struct job *job)
-{
-    return (pair_count(job) + 63) / 64;
-}
-
-static unsigned number_of(const struct job *job, struct pair pair)
-{
-    return pair.state.number * job->worlds + pair.world.number;
-}
-
-static struct pair pair_at(const struct search *search, uint32_t place)
-{
-    const unsigned number = pair_in(search->list[place]);
-    return (struct pair){{number / search->job->worlds}, {number % search->job->worlds}};
-}
-
-/*
- * A line comes with this pair to its end, or to a further lamp. The first time the pair is kept, and the line that ends
- * here is judged: Goal or its failure. A later line that ends with the same pair ends in the same way, and the first
- * one did not fail.
- */
-static unsigned arrive(struct search *search, struct pair pair, uint32_t from, unsigned kind)
-{
-    const unsigned number = number_of(search->job, pair);
-    const uint64_t bit = (uint64_t)1 << number % 64;
-    if (search->words[number / 64] & bit)
-        return NESSFLURRY_GOAL;
-    search->words[number / 64] |= bit;
-    search->list[search->reached++] = entry_of(number, from, kind);
-    return walk(search->job, pair, END_COLUMN).code;
-}
-
-/* The line to the pair at this place with one lamp of this kind behind it, and its end there: Goal or its failure. */
-static unsigned lengthen(struct search *search, uint32_t place, unsigned kind)
-{
-    const struct walked end = walk(search->job, pair_at(search, place), kind);
-    return end.code == NESSFLURRY_ARRIVED ? arrive(search, end.arrived, place, kind) : end.code;
-}
-
-/* How many lamps are passed on the way from a start to this place of the list. */
-static uint32_t lamps_before(const struct search *search, uint32_t place)
-{
-    uint32_t lamps = 0;
-    for (; kind_in(search->list[place]) != 0; place = from_in(search->list[place]))
-        lamps++;
-    return lamps;
-}
-
-/*
- * The failing answer for the line to this place with one lamp of this kind behind it. The line is written from its last
- * lamp to its first, and then the place is that of its start. It fits: on the way each pair is left by moving on, so it
- * is non-final, and none comes twice; so at most S·W lamps are before the last one.
- */
-static uint64_t failed_line(const struct search *search, unsigned failure, uint32_t place, unsigned kind, uint8_t *line)
-{
-    const uint32_t lamps = lamps_before(search, place) + 1;
-    line[lamps - 1] = (uint8_t)kind;
-    for (uint32_t left = lamps - 1; left > 0; left--) {
-        line[left - 1] = (uint8_t)kind_in(search->list[place]);
-        place = from_in(search->list[place]);
-    }
-    return answered(failure, pair_at(search, place).world.number, 0, lamps);
-}
-
-/*
- * The first failure met is that of the least failing line: fewest lamps, then lowest start, then lower kind at the
- * first lamp where two differ.
- *
- * A walk depends on its pair and its column alone. So where a run fails before its line's last lamp, the line up to the
- * lamp of the failure is shorter and fails as well: a shortest failing line fails at its last lamp or at its end.
- *
- * A line of n + 1 lamps is a line of n lamps and a kind. Where its run comes to the last lamp at all, with a pair,
- * `lengthen` judges it from that pair and kind: by the walk at the last lamp if that ends there, and otherwise by the
- * walk at the end. A failure at the end is found as soon as the pair is arrived at, since that line has as many lamps
- * as one that fails at its last lamp, and only start and kinds may decide between the two. Where a run ends before the
- * last lamp, its line reaches Goal, or a shorter one has failed.
- *
- * When two lines get the same lamps behind them, the one that is earlier in the order stays the earlier. So among the
- * lines that arrive with one pair the first speaks for all: whatever lamps follow, another fails with them exactly if
- * the first does, and then it is later in the order. This is why a pair is kept once, when it is first arrived at.
- *
- * The list has the pairs in the order of these first lines: the starts, ascending, have no lamps; and the pairs of n
- * lamps, taken in their order, with the kinds ascending for each, give the lines of n + 1 lamps in theirs, all of them
- * before any of n + 2.
- *
- * When no line fails, the list has each pair that some line reaches, once, as the words have one bit for it: their sum
- * is the length of the list.
- */
-static uint64_t search_lines(struct search *search, uint8_t *line)
-{
-    const struct job *const job = search->job;
-    for (world_state start = {0}; start.number < job->worlds; start.number++) {
-        if (job->starts[start.number] != 1)
-            continue;
-        const unsigned failure = arrive(search, (struct pair){job->first, start}, 0, 0);
-        if (failure != NESSFLURRY_GOAL)
-            return answered(failure, start.number, 0, 0);
-    }
-    for (uint32_t place = 0; place < search->reached; place++)
-        for (unsigned kind = 1; kind < job->columns; kind++) {
-            const unsigned failure = lengthen(search, place, kind);
-            if (failure != NESSFLURRY_GOAL)
-                return failed_line(search, failure, place, kind, line);
-        }
-    return answered(NESSFLURRY_GOAL, 0, 0, search->reached);
-}
-
-/* 01, Who can cause which number: 12 and 13. */
-static unsigned check_refusal(const struct job *job, size_t line_size, size_t list_size, size_t words_size)
-{
-    if (line_size < job->final.number * job->worlds + 1)
-        return 12;
-    if (list_size < pair_count(job) || words_size < word_count(job))
-        return 13;
-    return 0;
-}
-
-uint64_t plain_check(const uint8_t *file, size_t file_size, uint8_t *line, size_t line_size, uint32_t *list, size_t list_size,
-                     uint64_t *words, size_t words_size)
-{
-    struct job job;
-    unsigned refusal = read_job(file, file_size, &job);
-    if (refusal == 0)
-        refusal = check_refusal(&job, line_size, list_size, words_size);
-    if (refusal != 0)
-        return refused(refusal);
-    for (unsigned i = 0; i < word_count(&job); i++)
-        words[i] = 0;
-    struct search search = {.job = &job, .list = list, .words = words, .reached = 0};
-    return search_lines(&search, line);
 }
 
 /* ---- The cabinet (01, The cabinet) ---- */

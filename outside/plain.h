@@ -10,10 +10,13 @@
 uint64_t plain_read(const uint8_t *file, size_t file_size, uint16_t head[16]);
 uint64_t plain_walk(const uint8_t *file, size_t file_size, uint8_t state, uint8_t world, uint8_t column);
 uint64_t plain_run(const uint8_t *file, size_t file_size, uint8_t start, const uint8_t *line, size_t lamps, uint32_t limit);
-uint64_t plain_check(const uint8_t *file, size_t file_size, uint8_t *line, size_t line_size, uint32_t *list, size_t list_size,
-                     uint64_t *words, size_t words_size);
 uint64_t plain_begin(const uint8_t *file, size_t file_size, uint16_t lamps);
 uint64_t plain_action(const uint8_t *file, size_t file_size, uint8_t state, uint16_t lamps);
 uint64_t plain_report(const uint8_t *file, size_t file_size, uint8_t state, uint16_t lamps, uint8_t result);
+
+/* The check, in two forms that answer the same: one walks each time, the other remembers what walks came to. */
+typedef uint64_t check_call(const uint8_t *file, size_t file_size, uint8_t *line, size_t line_size, uint32_t *list,
+                            size_t list_size, uint64_t *words, size_t words_size);
+check_call plain_check, plain_check_remembering;
 
 #endif

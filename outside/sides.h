@@ -14,8 +14,7 @@ struct side {
     uint64_t (*read)(const uint8_t *file, size_t file_size, uint16_t head[16]);
     uint64_t (*walk)(const uint8_t *file, size_t file_size, uint8_t state, uint8_t world, uint8_t column);
     uint64_t (*run)(const uint8_t *file, size_t file_size, uint8_t start, const uint8_t *line, size_t lamps, uint32_t limit);
-    uint64_t (*check)(const uint8_t *file, size_t file_size, uint8_t *line, size_t line_size, uint32_t *list, size_t list_size,
-                      uint64_t *words, size_t words_size);
+    check_call *check;
     uint64_t (*begin)(const uint8_t *file, size_t file_size, uint16_t lamps);
     uint64_t (*action)(const uint8_t *file, size_t file_size, uint8_t state, uint16_t lamps);
     uint64_t (*report)(const uint8_t *file, size_t file_size, uint8_t state, uint16_t lamps, uint8_t result);

@@ -2,6 +2,7 @@
 
 #include "lent.h"
 #include "sides.h"
+#include "small_stack.h"
 #include "tally.h"
 
 enum { MOST_LAMPS = 65536 }; /* one more than a run takes */
@@ -120,12 +121,12 @@ static struct {
     uint64_t words[WORDS + ROOM_BEYOND];
 } before;
 
-static uint64_t lend_and_check(int i, struct sizes sizes)
+static uint64_t lend_and_check(check_call *check, int i, struct sizes sizes)
 {
     uint8_t *line = lend(&lent[i].line, before.line, sizes.line, at_end);
     uint32_t *list = lend(&lent[i].list, before.list, sizes.list * sizeof *list, at_end);
     uint64_t *words = lend(&lent[i].words, before.words, sizes.words * sizeof *words, at_end);
-    return sides[i].check(bytes[i], size, line, sizes.line, list, sizes.list, words, sizes.words);
+    return check(bytes[i], size, line, sizes.line, list, sizes.list, words, sizes.words);
 }
 
 /* The lamps of the failing line, as far as the lent buffer goes. */
@@ -150,7 +151,7 @@ static void judge_buffers(int i, struct sizes sizes, uint64_t answer)
     demand(memcmp(lent[i].words.at, before.words, sizes.words * sizeof *before.words) == 0, "the words as they were, if refused");
 }
 
-uint64_t compare_check(struct sizes sizes, uint8_t *failing, struct random *random)
+static uint64_t compare_checks(check_call *const checks[SIDES], struct sizes sizes, uint8_t *failing, struct random *random)
 {
     uint64_t answers[SIDES];
     random_bytes(random, before.line, sizes.line);
@@ -158,7 +159,7 @@ uint64_t compare_check(struct sizes sizes, uint8_t *failing, struct random *rand
     random_bytes(random, before.words, sizes.words * sizeof *before.words);
     place_call(CHECK, sizes.line, sizes.list, sizes.words);
     for (int i = 0; i < SIDES; i++)
-        answers[i] = lend_and_check(i, sizes);
+        answers[i] = lend_and_check(checks[i], i, sizes);
     settle(answers);
     for (int i = 0; i < SIDES; i++)
         judge_buffers(i, sizes, answers[i]);
@@ -166,4 +167,45 @@ uint64_t compare_check(struct sizes sizes, uint8_t *failing, struct random *rand
     demand(memcmp(lent[NESSFLURRY].line.at, lent[PLAIN].line.at, lamps) == 0, "equal failing lines");
     memcpy(failing, lent[NESSFLURRY].line.at, lamps);
     return answers[NESSFLURRY];
+}
+
+uint64_t compare_check(struct sizes sizes, uint8_t *failing, struct random *random)
+{
+    check_call *const checks[SIDES] = {sides[NESSFLURRY].check, sides[PLAIN].check};
+    return compare_checks(checks, sizes, failing, random);
+}
+
+/* A check to be made elsewhere: with what it is called, and its answer. */
+struct check {
+    const uint8_t *file;
+    uint8_t *line;
+    uint32_t *list;
+    uint64_t *words, answer;
+    size_t file_size;
+    struct sizes sizes;
+};
+
+static void make_check(void *given)
+{
+    struct check *with = given;
+    with->answer = nessflurry_check(with->file, with->file_size, with->line, with->sizes.line, with->list, with->sizes.list,
+                                    with->words, with->sizes.words);
+}
+
+static size_t stack_taken; /* by the last check_alone */
+
+static uint64_t check_alone(const uint8_t *file, size_t file_size, uint8_t *line, size_t line_size, uint32_t *list,
+                            size_t list_size, uint64_t *words, size_t words_size)
+{
+    struct check check = {.file = file, .file_size = file_size, .line = line, .list = list, .words = words,
+                          .sizes = {line_size, list_size, words_size}};
+    stack_taken = on_small_stack(make_check, &check);
+    return check.answer;
+}
+
+size_t compare_check_alone(struct sizes sizes, uint8_t *failing, struct random *random)
+{
+    check_call *const checks[SIDES] = {check_alone, plain_check_remembering};
+    compare_checks(checks, sizes, failing, random);
+    return stack_taken;
 }

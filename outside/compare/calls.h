@@ -27,4 +27,10 @@ uint64_t compare_report(uint8_t state, uint16_t lamps, uint8_t result);
 enum { ROOM_BEYOND = 100 };
 uint64_t compare_check(struct sizes sizes, uint8_t *failing, struct random *random);
 
+/*
+ * The same, with the product's check alone on a small stack; answers how many bytes of it that took (small_stack.h). On the plain
+ * side it is the form that remembers, since the other takes long on the largest jobs.
+ */
+size_t compare_check_alone(struct sizes sizes, uint8_t *failing, struct random *random);
+
 #endif

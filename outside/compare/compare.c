@@ -1,6 +1,7 @@
 /*
  * The outside test. Job files, sound and damaged, are made from their numbers; every operation is called on each of them on
- * both sides and compared, and what the demands say of several calls together is tried.
+ * both sides and compared, and what the demands say of several calls together is tried. All of it is done on a stack of the
+ * size that nessflurry.h says a check needs; and the checks of the largest jobs are made first, each with that stack for itself.
  *
  *     compare           the standard run
  *     compare long      some twenty times as many files
@@ -10,16 +11,16 @@
 #define _DEFAULT_SOURCE
 #include "calls.h"
 #include "nessflurry.h"
+#include "small_stack.h"
 #include "tally.h"
 #include "trials.h"
 
-#include <pthread.h>
 #include <signal.h>
 #include <stdio.h>
 #include <stdlib.h>
 #include <unistd.h>
 
-enum { STACK_BYTES = 256 * 1024, PATIENCE_SECONDS = 60 };
+enum { PATIENCE_SECONDS = 60 };
 
 static void try_sound(struct trial *trial)
 {
@@ -35,17 +36,23 @@ static void try_sound(struct trial *trial)
     }
 }
 
-static void try_number(uint32_t number)
+static struct trial *take_trial(uint32_t number)
 {
     static struct trial trial;
     place.number = number;
     alarm(PATIENCE_SECONDS);
     make_trial(&trial, number);
     take_file(&trial.file, &trial.random);
-    if (trial.sound)
-        try_sound(&trial);
+    return &trial;
+}
+
+static void try_number(uint32_t number)
+{
+    struct trial *trial = take_trial(number);
+    if (trial->sound)
+        try_sound(trial);
     else
-        try_file(&trial);
+        try_file(trial);
 }
 
 /* A call that reads or writes astray traps, and one that runs on is found by the alarm: either ends the test. */
@@ -86,30 +93,22 @@ static struct numbers chosen_numbers(int argc, char **argv)
     exit(2);
 }
 
-/* Signals have a stack of their own meanwhile, for a call that has used up the other. */
-static void *try_all(void *chosen)
+static void try_all(void *chosen)
 {
-    static uint8_t signal_stack[64 * 1024];
-    const stack_t own = {.ss_sp = signal_stack, .ss_size = sizeof signal_stack};
     const struct numbers *numbers = chosen;
-    stack_t before;
-    sigaltstack(&own, &before);
     for (uint32_t number = numbers->from; number < numbers->to; number += numbers->step)
         try_number(number);
-    sigaltstack(&before, NULL);
-    return NULL;
 }
 
-/* On a thread with the stack that nessflurry.h says a check needs. */
-static void try_on_small_stack(struct numbers *numbers)
+/* The hardest jobs, with nothing but the product's check on the small stack. */
+static void try_large(void)
 {
-    pthread_attr_t attributes;
-    pthread_t thread;
-    if (pthread_attr_init(&attributes) != 0 || pthread_attr_setstacksize(&attributes, STACK_BYTES) != 0
-        || pthread_create(&thread, &attributes, try_all, numbers) != 0 || pthread_join(thread, NULL) != 0) {
-        fprintf(stderr, "no thread to test on\n");
-        exit(2);
+    size_t most = 0;
+    for (uint32_t number = FIRST_LARGE; number < FIRST_RANDOM; number++) {
+        size_t used = try_check_alone(take_trial(number));
+        most = used > most ? used : most;
     }
+    printf("a check of the largest jobs takes at most %zu of %d bytes of stack\n", most, STACK_BYTES);
 }
 
 int main(int argc, char **argv)
@@ -117,7 +116,8 @@ int main(int argc, char **argv)
     struct numbers numbers = chosen_numbers(argc, argv);
     open_rooms();
     catch_signals();
-    try_on_small_stack(&numbers);
+    try_large();
+    on_small_stack(try_all, &numbers);
     print_tally();
     bool something_missing = numbers.to - numbers.from > 1 && !all_seen();
     print_comparisons();

@@ -37,7 +37,7 @@ static void make_random(struct trial *trial)
 static void make_numbered(struct trial *trial, uint32_t number)
 {
     if (number >= FIRST_LARGE)
-        large_job(&trial->job, number - FIRST_LARGE);
+        sized_job(&trial->job, number - FIRST_LARGE, FULL);
     else
         bench_line(&trial->job, number >= FIRST_BENCH ? number - FIRST_BENCH : BENCH_G);
     write_file(&trial->file, &trial->job, &trial->random);

@@ -20,7 +20,7 @@ enum {
     FIRST_SIZE = BENCH_BYTES * 256,                  /* before it: that file with each byte at each value */
     FIRST_BENCH = FIRST_SIZE + BENCH_BYTES + 32 + 3, /* before it: that file at sizes up to 159 and at the largest three */
     FIRST_LARGE = FIRST_BENCH + BENCH_VARIANTS,
-    FIRST_RANDOM = FIRST_LARGE + LARGE_JOBS
+    FIRST_RANDOM = FIRST_LARGE + SIZED_JOBS
 };
 void make_trial(struct trial *trial, uint32_t number);
 
@@ -35,6 +35,9 @@ void try_cabinet_calls(struct trial *trial);
 
 /* The check, and what follows from it for runs; answers whether the plan is accepted. */
 bool try_check(struct trial *trial);
+
+/* The check with the product's on a stack of its own (small_stack.h); answers the bytes of stack that it took. */
+size_t try_check_alone(struct trial *trial);
 
 /* A cabinet that is led along a line. */
 void lead_cabinet(struct trial *trial, bool accepted);

@@ -129,3 +129,8 @@ bool try_check(struct trial *trial)
         follow_failed(trial, answer);
     return accepted;
 }
+
+size_t try_check_alone(struct trial *trial)
+{
+    return compare_check_alone(enough(&trial->job), failing_line, &trial->random);
+}

@@ -148,10 +148,9 @@ static void right_plan(struct job *job, struct random *random, bool may_end)
         lamp_state(job, random, state, looking, may_end);
 }
 
-static void right_job(struct job *job, struct random *random)
+void right_job(struct job *job, struct random *random)
 {
     bool may_end = one_in(random, 2); /* in state S with lamps left: then the goal is true in every column */
-    choose_numbers(job, random, 2, 2, 2);
     clear_tables(job);
     for (int action = PASS; action < job->actions; action++)
         job->marks[action] = action == PASS || one_in(random, 3);
@@ -162,7 +161,13 @@ static void right_job(struct job *job, struct random *random)
     right_plan(job, random, may_end);
 }
 
-/* ---- Members of the other families ---- */
+/* ---- Members of the families ---- */
+
+static void random_right_job(struct job *job, struct random *random)
+{
+    choose_numbers(job, random, 2, 2, 2);
+    right_job(job, random);
+}
 
 static void random_counting_job(struct job *job, struct random *random)
 {
@@ -224,7 +229,7 @@ void random_job(struct job *job, struct random *random)
     case 2: random_counting_job(job, random); break;
     case 3: random_turning_job(job, random); break;
     case 4: bench_line(job, below(random, BENCH_VARIANTS)); break;
-    default: right_job(job, random); break;
+    default: random_right_job(job, random); break;
     }
     choose_starts(job, random);
     if (one_in(random, 2))

@@ -23,19 +23,30 @@ void counting_job(struct job *job, uint8_t last);
  */
 void turning_job(struct job *job, uint8_t movers, uint32_t turning);
 
+/* A right plan over random tables, with no start marked yet. Its numbers are set before: A, R and S are 2 or more. */
+void right_job(struct job *job, struct random *random);
+
 /* Every number at its largest. */
 void largest_numbers(struct job *job);
 
-/* Jobs of the largest numbers. */
-enum large_job {
-    MAX_ACCEPTED,     /* accepted, with as many pairs as a plan of this size can reach */
-    MAX_LONG_FAILURE, /* its shortest failing line is as long as that of a plan of this size can be */
-    MAX_WALK,         /* accepted, with nearly S·W steps at each lamp */
-    MAX_WORK,         /* accepted, with as many pairs as MAX_ACCEPTED and long walks at nearly half of the kinds */
-    MAX_AT_ONCE,      /* fails on the empty line */
-    LARGE_JOBS
+/* Jobs by what a check of them costs, in three sizes; full is the largest numbers. */
+enum size { SMALL, MIDDLE, FULL, SIZES };
+enum sized_job {
+    JOB_ACCEPTED,       /* accepted, with as many pairs as a plan of this size can reach, and short walks */
+    JOB_LONG_FAILURE,   /* its shortest failing line is as long as that of a plan of this size can be */
+    JOB_WALK,           /* accepted, with nearly S·W steps at each lamp */
+    JOB_WORK,           /* accepted, with as many pairs as JOB_ACCEPTED and long walks at nearly half of the kinds */
+    JOB_AT_ONCE,        /* fails on the empty line */
+    JOB_FIRST_LAMP,     /* fails at the first lamp of the first kind */
+    JOB_CIRCLE,         /* fails there too, by circling through nearly all pairs */
+    JOB_RANDOM,         /* accepted, over random tables */
+    JOB_RANDOM_FAILURE, /* the same with the goal false in one world */
+    SIZED_JOBS
 };
-extern const char *const large_job_names[LARGE_JOBS];
-void large_job(struct job *job, enum large_job which);
+extern const char *const size_names[SIZES], *const sized_job_names[SIZED_JOBS];
+void sized_job(struct job *job, enum sized_job which, enum size size);
+
+/* An accepted job for which a check that walks each time makes 600,006 steps. */
+void steps_job(struct job *job);
 
 #endif

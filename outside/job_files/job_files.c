@@ -1,7 +1,9 @@
 /*
- * The layout of a job file, and bench line G.
+ * The layout of a job file, bench line G, and the README's example.
  */
 #include "job_files.h"
+
+/* ---- The layout ---- */
 
 enum { PAIRS_AT = 8, FIRST_PART_AT = 28 };
 
@@ -86,6 +88,8 @@ void write_file(struct file *file, const struct job *job, struct random *random)
     file->size = at + job->gap[PARTS];
 }
 
+/* ---- Tables ---- */
+
 void clear_tables(struct job *job)
 {
     memset(job->marks, 0, sizeof job->marks);
@@ -105,6 +109,8 @@ static void set_row(struct job *job, uint8_t state, uint8_t action, uint8_t if_0
     job->target[state][0] = if_0;
     job->target[state][1] = if_1;
 }
+
+/* ---- Bench line G ---- */
 
 enum { PEEK, TEST, NEXT, FLAG };
 enum { CLEAR, FLAGGED, SPOILT };
@@ -170,4 +176,27 @@ void bench_line(struct job *job, enum bench_variant variant)
     case BENCH_ONE_LATER: job->gap[CELLS] = 1; break;
     default: break;
     }
+}
+
+/* ---- The README's example ---- */
+
+enum { EXAMPLE_PEEK, EXAMPLE_NEXT };
+
+void example_job(struct job *job)
+{
+    memset(job, 0, sizeof *job);
+    clear_tables(job);
+    job->actions = 2;
+    job->worlds = 1;
+    job->kinds = 1;
+    job->results = 2;
+    job->states = 2;
+    job->marks[EXAMPLE_NEXT] = 1;
+    job->cells[EXAMPLE_PEEK][0][0] = (struct cell){0, 0};
+    job->cells[EXAMPLE_PEEK][0][1] = (struct cell){0, 1};
+    job->cells[EXAMPLE_NEXT][0][1] = (struct cell){0, 0};
+    job->starts[0] = 1;
+    job->goal[0][0] = 1;
+    set_row(job, 0, EXAMPLE_PEEK, 2, 1);
+    set_row(job, 1, EXAMPLE_NEXT, 0, NONE);
 }

@@ -1,5 +1,6 @@
 /*
- * A job as tables (document 01, "The line and its tables"), its file (document 01, "Job file"), and bench line G.
+ * A job as tables (document 01, "The line and its tables"), its file (document 01, "Job file"), bench line G, and the README's
+ * example.
  */
 #ifndef OUTSIDE_JOB_FILES_H
 #define OUTSIDE_JOB_FILES_H
@@ -67,5 +68,8 @@ enum bench_variant {
     BENCH_VARIANTS
 };
 void bench_line(struct job *job, enum bench_variant variant);
+
+/* The README's example: a plan that walks a line of one kind of lamp to its end. */
+void example_job(struct job *job);
 
 #endif

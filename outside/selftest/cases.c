@@ -66,10 +66,19 @@ static bool kept(const void *bytes, size_t count)
     return true;
 }
 
+static uint64_t call_check(check_call *call, struct lent *to, struct sizes sizes)
+{
+    memset(to, LENT_BYTE, sizeof *to);
+    return call(file.bytes, file.size, to->line, sizes.line, to->list, sizes.list, to->words, sizes.words);
+}
+
 uint64_t check_with(struct sizes sizes)
 {
-    memset(&lent, LENT_BYTE, sizeof lent);
-    return plain_check(file.bytes, file.size, lent.line, sizes.line, lent.list, sizes.list, lent.words, sizes.words);
+    static struct lent remembering;
+    const uint64_t answer = call_check(plain_check, &lent, sizes);
+    expect("the check that remembers", call_check(plain_check_remembering, &remembering, sizes), answer);
+    expect("what is lent to the check that remembers", memcmp(&remembering, &lent, sizeof lent) == 0, true);
+    return answer;
 }
 
 uint64_t check(void)

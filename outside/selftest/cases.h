@@ -10,6 +10,7 @@
 void bench_cases(void);
 void refusal_cases(void);
 void long_line_cases(void);
+void form_cases(void);
 
 /* Prints how many of its jobs were accepted, and how many failed in which way on how long a line. */
 void random_cases(void);
@@ -53,7 +54,7 @@ extern struct lent {
     uint64_t words[WORDS];
 } lent;
 
-/* The check's answer when so much of each is lent. */
+/* The check's answer when so much of each is lent. Both of its forms are tried, and agree in it and in every lent byte. */
 uint64_t check_with(struct sizes sizes);
 
 /* The check's answer with the least that must be lent, and nothing written behind that or behind the failing line. */

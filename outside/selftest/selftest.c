@@ -8,7 +8,8 @@ int main(void)
     bench_cases();
     refusal_cases();
     long_line_cases();
-    printf("bench line G, refusals, long lines: %u answers compared, %u differ\n", compared, differing);
+    form_cases();
+    printf("bench line G, refusals, long lines, forms of the check: %u answers compared, %u differ\n", compared, differing);
     random_cases();
     printf("all: %u answers compared, %u differ\n", compared, differing);
     return differing != 0;

@@ -8,6 +8,7 @@ use bench_jobs::shifted;
 use lamp_line::Ending;
 use lamp_line::FailureKind;
 use lamp_line::WorldState;
+use libc::STDIN_FILENO;
 use libc::STDOUT_FILENO;
 use line_run::RunAnswer;
 use plan_check::CheckAnswer;
@@ -680,6 +681,17 @@ fn print_counts(accepted: u32, failed: u32, longer: u32, differences: u32) {
     io::write_all(STDOUT_FILENO, b"\n");
 }
 
+// A job of the largest numbers from standard input. Its walks are long, and from thousands of pairs: made anew each time they are
+// 45 million steps.
+fn full_size() {
+    let mut file = io::large_buffer();
+    let size = io::read_full(STDIN_FILENO, &mut file);
+    let mut line = [7u8; 4097];
+    let mut list = [9u32; 4160];
+    let mut words = [0u64; 65];
+    check(b"full size, long walks", &file[..size], &mut line, &mut list, &mut words, 0);
+}
+
 // The comparison with the plain search.
 fn comparison() {
     let mut accepted: u32 = 0;
@@ -706,5 +718,6 @@ fn main() {
     file_first();
     no_states();
     small_jobs();
+    full_size();
     comparison();
 }

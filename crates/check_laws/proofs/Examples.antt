@@ -16,7 +16,7 @@ use Rattle.lamp_line.specs.Run.{act, walk, ownSteps}
 use Rattle.run_laws.specs.Pairs.{pairNumber}
 use Rattle.run_laws.specs.Lines.{lineOf}
 use Rattle.check_laws.specs.Fates.{pairOf, fate, endsFrom}
-use Rattle.check_laws.specs.Search.{met, kindsFrom, entriesFrom, startsFrom, verdictOf}
+use Rattle.check_laws.specs.Search.{met, tried, labelsFrom, placesFrom, verdictOf}
 
 -- Action 0 looks: its result is 0 at the line's end and 1 at a lamp. Action 1 passes a lamp.
 abbrev cells : Action → WorldState → ℕ → List Outcome
@@ -65,5 +65,5 @@ pub record SmallChecks : Type 0 where
 
 -- Each holds by computation.
 pub small-checks : SmallChecks
-unfolding endKinds lampColumn act walk ownSteps pairNumber pairOf fate endsFrom met kindsFrom entriesFrom startsFrom verdictOf
+unfolding endKinds lampColumn act walk ownSteps pairNumber pairOf fate endsFrom met tried labelsFrom placesFrom verdictOf
 small-checks = record { correct = refl; odd-lamps = refl; circling = refl; no-branch = refl; not-legal = refl }

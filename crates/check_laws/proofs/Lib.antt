@@ -1,12 +1,15 @@
 pub mod Counting
+pub mod Ends
 pub mod Examples
 pub mod FailingLines
 pub mod FateLaws
+pub mod MetPairs
 pub mod OneVerdict
 pub mod PassedLamps
 pub mod ReachedPairs
 pub mod RightAnswers
 pub mod RunLeads
+pub mod SearchRest
 pub mod TableGraph
 pub mod TableTurns
 pub mod VerdictRight

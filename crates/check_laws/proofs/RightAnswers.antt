@@ -20,7 +20,7 @@ use Rattle.run_laws.specs.Lines.{lineOf}
 use Rattle.search_laws.proofs.Keys.{stem-is, key-stem-order}
 use Rattle.search_laws.specs.Graph.{FailsFrom}
 use Rattle.search_laws.proofs.Graph.{Least}
-use Rattle.search_laws.proofs.Table.{Entry, entry, node}
+use Rattle.search_laws.specs.Entries.{Entry, entry, node}
 use Rattle.search_laws.proofs.Shortness.{least-short}
 use Rattle.search_laws.proofs.Turns.{At, accepted, reached-in-table}
 use Rattle.check_laws.specs.Fates.{pairOf}

@@ -1,195 +1,105 @@
--- The answer that the search function gives is right: each of its loops keeps the invariant of the search, by the laws of its
--- turns.
+-- The answer that the search function gives is right: its loops keep the invariant of the search, by the law of its turns.
 use mathlib.Core.Path.{_≡_, refl, subst}
-use mathlib.Core.Logic.{_≢_}
-use mathlib.Core.Bool.{Bool, true, false, _||_}
-use mathlib.Core.List.{List, [], _∷_}
+use mathlib.Core.List.{List, []}
 use Prim.Native.Nat.{ℕ, zero, suc, _+_, _*_, _≤_, _<_}
 use native.Mathlib.Decide.{decLt}
+use native.Mathlib.Numerals.{add-one}
 use native.Mathlib.Omega.{arith}
-use borrow.Author.Tests.{ltb-true, ltb-false, eqb-true, eqb-false}
-use lib.Dec.{eqb, ltb}
+use borrow.Author.Tests.{le-leb, lt-leb}
 use lib.ListN.{length}
+use Rattle.lamp_line.specs.declared.WorldState.{WorldState}
 use Rattle.lamp_line.specs.declared.FailureKind.{FailureKind}
-use Rattle.lamp_line.specs.Tables.{Tables, WellFormed, worldState, endKinds, lampColumn}
-use Rattle.lamp_line.specs.Check.{Right}
-use Rattle.search_laws.specs.Graph.{Kind}
-use Rattle.search_laws.proofs.Table.{Entry, node}
+use Rattle.lamp_line.specs.Tables.{Tables, WellFormed, Line, worldState}
+use Rattle.lamp_line.specs.Check.{failed, Counterexample, Right}
+use Rattle.search_laws.proofs.Graph.{reach-below}
+use Rattle.search_laws.specs.Entries.{Entry}
+use Rattle.search_laws.proofs.Room.{entries-fit}
 use Rattle.search_laws.proofs.Turns.{At, turn-next}
-use Rattle.search_laws.proofs.Begin.{Begun, begin-empty}
-use Rattle.check_laws.specs.Fates.{Fate, succeeds, fails, arrives, AtEnds, good, bad, startNode, fate, endsFrom, atEnds}
-use Rattle.check_laws.specs.Search.{Turn, answers, goes-on, andThen, met, arrival, beginning, conclusion}
-use Rattle.check_laws.specs.Search.{turn, kindsFrom, entriesFrom, startsFrom, verdictOf}
-use Rattle.check_laws.proofs.TableGraph.{FailsAt, graph}
+use Rattle.search_laws.proofs.Begin.{Begun, begin-empty, begin-done}
+use Rattle.check_laws.specs.Fates.{startNode}
+use Rattle.check_laws.specs.Search.{Turn, answers, goes-on, andThen, conclusion, firstLabel, labels, tried}
+use Rattle.check_laws.specs.Search.{labelsFrom, placesFrom, verdictOf}
+use Rattle.check_laws.proofs.TableGraph.{graph, start-bound, to-bound}
 use Rattle.check_laws.proofs.RightAnswers.{table-right}
-use Rattle.check_laws.proofs.TableTurns.{GoodAtEnds, BadAtEnd, start-unmarked, start-good, start-bad, starts-done}
-use Rattle.check_laws.proofs.TableTurns.{entries-bound, fate-succeeds, fate-met, fate-fails, new-good, new-bad}
-
--- ---- a pair in the table
-
-met-true : (E : List Entry) (y : ℕ) → met E y ≡ true → (j : ℕ) × (j < length E) × (node E j ≡ y)
-unfolding met
-met-true [] y e = absurd (let z : _≡_ {A = ℕ} 0 1 = cc in omega arith)
-met-true (v ∷ E) y e = go (met-true E y) (eqb (v .node) y) refl e
-  where
-    go :
-        (met E y ≡ true → (j : ℕ) × (j < length E) × (node E j ≡ y)) → (b : Bool) → eqb (v .node) y ≡ b → (b || met E y) ≡ true →
-        (j : ℕ) × (j < suc (length E)) × (node (v ∷ E) j ≡ y)
-    go after true f e = (0, omega arith, eqb-true (v .node) y f)
-    go after false f e = let (j, l, g) = after e in (suc j, omega arith, g)
-
-met-false : (E : List Entry) (y : ℕ) → met E y ≡ false → (i : ℕ) → i < length E → node E i ≢ y
-unfolding met
-met-false [] y e i l = absurd (omega arith)
-met-false (v ∷ E) y e i l = go (met-false E y) (eqb (v .node) y) refl e i l
-  where
-    go :
-        (met E y ≡ false → (i : ℕ) → i < length E → node E i ≢ y) → (b : Bool) → eqb (v .node) y ≡ b → (b || met E y) ≡ false →
-        (i : ℕ) → i < suc (length E) → node (v ∷ E) i ≢ y
-    go after true f e i l = absurd (let z : _≡_ {A = ℕ} 0 1 = cc in omega arith)
-    go after false f e zero l = eqb-false (v .node) y f
-    go after false f e (suc i) l = after e i (omega arith)
+use Rattle.check_laws.proofs.TableTurns.{Owes, Stage, labelsEnd, labels-end, tried-right}
 
 module _ (t : Tables) where
-  -- ---- a pair at the ends
-
-  -- What the test of a pair at the ends says.
-  abbrev EndsSay : ℕ → AtEnds → Type 0
-  EndsSay x good = GoodAtEnds t x
-  EndsSay x (bad e kind) = BadAtEnd t x e kind
-
-  ends-from :
-      (n e x : ℕ) → e + n ≡ endKinds t → ((e′ f : ℕ) → e′ < e → ¬ (FailsAt t x e′ f)) → EndsSay x (endsFrom t n e x)
-  unfolding endsFrom
-  ends-from zero e x h none = λ e′ f l. none e′ f (omega arith)
-  ends-from (suc n) e x h none = go (ends-from n (e + 1) x (omega arith)) (fate t x e) refl
-    where
-      also : ((kind : FailureKind) → ¬ (fate t x e ≡ fails kind)) → (e′ f : ℕ) → e′ < e + 1 → ¬ (FailsAt t x e′ f)
-      also here e′ f l (kind, g, k) = at (decLt e′ e)
-        where
-          at : Dec (e′ < e) → ⊥
-          at (yes u) = none e′ f u (kind, g, k)
-          at (no u) = let same : e′ ≡ e = omega arith in here kind (rw same at g)
-
-      go :
-          (((e′ f : ℕ) → e′ < e + 1 → ¬ (FailsAt t x e′ f)) → EndsSay x (endsFrom t n (e + 1) x)) →
-          (v : Fate) → fate t x e ≡ v →
-          EndsSay x (elim v as (λ _. AtEnds) [
-            | succeeds ↦ endsFrom t n (e + 1) x
-            | fails kind ↦ bad e kind
-            | arrives y ↦ endsFrom t n (e + 1) x
-          ])
-      go after succeeds f = after (also (λ kind g. let z : _≡_ {A = ℕ} 0 1 = cc in omega arith))
-      go after (fails kind) f = record { is-end = omega arith; fate-is = f; lowest = none }
-      go after (arrives y) f = after (also (λ kind g. let z : _≡_ {A = ℕ} 0 1 = cc in omega arith))
-
-  ends-say : (x : ℕ) → EndsSay x (atEnds t x)
-  ends-say x = ends-from (endKinds t) 0 x (omega arith) (λ e f l. absurd (omega arith))
-
-  -- ---- parts of the search
-
-  -- What a part of the search owes: a right answer, or a table of which P holds.
-  abbrev Owes : (List Entry → Type 0) → Turn → Type 0
-  Owes P (answers v) = Right t v
-  Owes P (goes-on E) = P E
-
+  -- A part of the search, and then the next.
   and-then :
       (P Q : List Entry → Type 0) (r : Turn) (f : List Entry → Turn) →
-      Owes P r → ((E : List Entry) → P E → Owes Q (f E)) → Owes Q (andThen r f)
+      Owes t P r → ((E : List Entry) → P E → Owes t Q (f E)) → Owes t Q (andThen r f)
   and-then P Q (answers v) f h after = h
   and-then P Q (goes-on E) f h after = after E h
 
+  -- All entries were tried with all kinds.
+  abbrev Through : List Entry → Type 0
+  Through E = (i : ℕ) × At (graph t) E i (t .kinds + 1) × (length E ≤ i + 1)
+
+  -- The loop over the places stands at the place h, or behind the last.
+  data Stands (E : List Entry) (h : ℕ) : Type 0 where
+    at-place : Stage t E h (firstLabel h) → Stands E h
+    behind-last : Through E → length E < h → Stands E h
+
   module _ (wf : WellFormed t) where
-    -- ---- one entry at one kind of lamp
+    -- ---- one place
 
-    module _ (E : List Entry) (h k : ℕ) (at : At (graph t) E h k) (kind : Kind (t .kinds) k) where
-      abbrev Next : List Entry → Type 0
-      Next E′ = At (graph t) E′ h (k + 1)
+    -- The labels of a place, from k on.
+    labels-right :
+        (n : ℕ) (E : List Entry) (h k : ℕ) → Stage t E h k → firstLabel h ≤ k → k + n ≡ labelsEnd t h →
+        Owes t (λ E′. Stage t E′ h (labelsEnd t h)) (labelsFrom t n E h k)
+    unfolding labelsFrom
+    labels-right zero E h k stage low e = let done : k ≡ labelsEnd t h = omega arith in subst (Stage t E h) done stage
+    labels-right (suc n) E h k stage low e =
+        and-then (λ E′. Stage t E′ h (k + 1)) (λ E′. Stage t E′ h (labelsEnd t h))
+        (tried t E h k) (λ E′. labelsFrom t n E′ h (k + 1))
+        (tried-right t wf E h k stage low (omega arith))
+        (λ E′ stage′. labels-right n E′ h (k + 1) stage′ (omega arith) (omega arith))
 
-      arrival-right :
-          (y : ℕ) → fate t (node E h) (lampColumn t k) ≡ arrives y → (b : Bool) → met E y ≡ b →
-          (ends : AtEnds) → EndsSay y ends → Owes Next (arrival E h k y b ends)
-      unfolding Right
-      arrival-right y e true m ends say = let (j, l, is) = met-true E y m in fate-met t wf E h k at y j e l is
-      arrival-right y e false m good say = new-good t wf E h k at kind y e (met-false E y m) say
-      arrival-right y e false m (bad end x) say = new-bad t wf E h k at kind y e (met-false E y m) end x say
+    -- All starts are taken: the first entry is tried with the first kind.
+    starts-done : (E : List Entry) → Begun (graph t) E (t .worlds) → At (graph t) E 0 1
+    starts-done E begun =
+        let (w, marked) = wf .some-start in
+        let known = begun .roots (w .0) (startNode t (w .0)) (wf .start-range w marked) (marked, refl) in
+        begin-done (graph t) E (t .worlds) begun (omega (arith, known .there)) (λ s x (m, e). wf .start-range (worldState s) m)
 
-      turn-right : (v : Fate) → fate t (node E h) (lampColumn t k) ≡ v → Owes Next (turn t E h k v)
-      unfolding Right
-      turn-right succeeds e = fate-succeeds t wf E h k at e
-      turn-right (fails x) e = fate-fails t wf E h k at kind x e
-      turn-right (arrives y) e = arrival-right y e (met E y) refl (atEnds t y) (ends-say y)
-
-    -- ---- the loops
-
-    kinds-right :
-        (n : ℕ) (E : List Entry) (h k : ℕ) → At (graph t) E h k → 1 ≤ k → k + n ≡ t .kinds + 1 →
-        Owes (λ E′. At (graph t) E′ h (t .kinds + 1)) (kindsFrom t n E h k)
-    unfolding kindsFrom
-    kinds-right zero E h k at low e = let last : k ≡ t .kinds + 1 = omega arith in subst (At (graph t) E h) last at
-    kinds-right (suc n) E h k at low e =
-        and-then (λ E′. At (graph t) E′ h (k + 1)) (λ E′. At (graph t) E′ h (t .kinds + 1))
-        (turn t E h k (fate t (node E h) (lampColumn t k))) (λ E′. kindsFrom t n E′ h (k + 1))
-        (turn-right E h k at (record { low = low; high = omega arith }) (fate t (node E h) (lampColumn t k)) refl)
-        (λ E′ at′. kinds-right n E′ h (k + 1) at′ (omega arith) (omega arith))
-
-    -- The loop over the entries stands at the entry h, or behind the last.
-    data Stands (E : List Entry) (h : ℕ) : Type 0 where
-      at-entry : At (graph t) E h 1 → Stands E h
-      behind-last : (i : ℕ) → h ≡ i + 1 → At (graph t) E i (t .kinds + 1) → length E ≤ h → Stands E h
-
-    -- All entries were tried with all kinds.
-    abbrev Through : List Entry → Type 0
-    Through E = (i : ℕ) × At (graph t) E i (t .kinds + 1) × (length E ≤ i + 1)
-
-    entries-right :
-        (n : ℕ) (E : List Entry) (h : ℕ) → Stands E h → (t .states + 1) * t .worlds ≤ h + n → Owes Through (entriesFrom t n E h)
-    unfolding entriesFrom
-    entries-right zero E h (at-entry at) fuel = absurd (omega (arith, entries-bound t wf E h 1 at, at .inv .b≤n))
-    entries-right zero E h (behind-last i e at end) fuel = (i, at, omega arith)
-    entries-right (suc n) E h stands fuel = go (ltb h (length E)) refl stands (λ E′ s. entries-right n E′ (h + 1) s (omega arith))
+    -- All labels of a place were tried: the next place comes, or there is none.
+    next-place : (E : List Entry) (h : ℕ) → Stage t E h (labelsEnd t h) → Stands E (suc h)
+    next-place E zero begun = at-place (starts-done E begun)
+    next-place E (suc i) at = go (decLt (i + 1) (length E))
       where
-        next : (E′ : List Entry) → At (graph t) E′ h (t .kinds + 1) → Dec (h + 1 < length E′) → Stands E′ (h + 1)
-        next E′ at (yes l) = at-entry (turn-next (graph t) E′ h at l)
-        next E′ at (no l) = behind-last h refl at (omega arith)
+        go : Dec (i + 1 < length E) → Stands E (suc (suc i))
+        go (yes l) = at-place (rw add-one at (turn-next (graph t) E i at l))
+        go (no l) = behind-last (i, at, omega arith) (omega arith)
 
-        go :
-            (b : Bool) → ltb h (length E) ≡ b → Stands E h →
-            ((E′ : List Entry) → Stands E′ (h + 1) → Owes Through (entriesFrom t n E′ (h + 1))) →
-            Owes Through (elim b as (λ _. Turn) [
-              | false ↦ goes-on E
-              | true ↦ andThen (kindsFrom t (t .kinds) E h 1) (λ E′. entriesFrom t n E′ (h + 1))
-            ])
-        go false f (at-entry at) after = absurd (omega (arith, ltb-false h (length E) f, at .inv .b≤n))
-        go false f (behind-last i e at end) after = (i, at, omega arith)
-        go true f (at-entry at) after =
-            and-then (λ E′. At (graph t) E′ h (t .kinds + 1)) Through
-            (kindsFrom t (t .kinds) E h 1) (λ E′. entriesFrom t n E′ (h + 1))
-            (kinds-right (t .kinds) E h 1 at (omega arith) (omega arith))
-            (λ E′ at′. after E′ (next E′ at′ (decLt (h + 1) (length E′))))
-        go true f (behind-last i e at end) after = absurd (omega (arith, ltb-true h (length E) f))
+    -- ---- the places
 
-    beginning-right :
-        (E : List Entry) (s : ℕ) → Begun (graph t) E s → (b : Bool) → t .start (worldState s) ≡ b →
-        (ends : AtEnds) → EndsSay (startNode t s) ends →
-        Owes (λ E′. Begun (graph t) E′ (s + 1)) (beginning E s (startNode t s) b ends)
-    unfolding Right
-    beginning-right E s begun false e ends say = start-unmarked t wf E s begun e
-    beginning-right E s begun true e good say = start-good t wf E s begun e say
-    beginning-right E s begun true e (bad end kind) say = start-bad t wf E s begun end kind e say
+    -- A place that is tried has an entry, and there are no more entries than pairs.
+    place-bound : (E : List Entry) (h k : ℕ) → Stage t E h k → (h ≤ length E) × (h ≤ (t .states + 1) * t .worlds)
+    place-bound E zero k begun = (omega arith, omega arith)
+    place-bound E (suc h) k at = (omega (arith, at .inv .b≤n), omega (arith, at .inv .b≤n, fits))
+      where
+        fits : length E ≤ (t .states + 1) * t .worlds
+        fits =
+            entries-fit E ((t .states + 1) * t .worlds) (at .inv .distinct) (λ i l.
+            reach-below (graph t) ((t .states + 1) * t .worlds) (start-bound t wf) (to-bound t wf) (at .inv .real i l))
 
-    starts-right :
-        (n : ℕ) (E : List Entry) (s : ℕ) → Begun (graph t) E s → s + n ≡ t .worlds →
-        Owes (λ E′. Begun (graph t) E′ (t .worlds)) (startsFrom t n E s)
-    unfolding startsFrom
-    starts-right zero E s begun e = let last : s ≡ t .worlds = omega arith in subst (Begun (graph t) E) last begun
-    starts-right (suc n) E s begun e =
-        and-then (λ E′. Begun (graph t) E′ (s + 1)) (λ E′. Begun (graph t) E′ (t .worlds))
-        (beginning E s (startNode t s) (t .start (worldState s)) (atEnds t (startNode t s))) (λ E′. startsFrom t n E′ (s + 1))
-        (beginning-right E s begun (t .start (worldState s)) refl (atEnds t (startNode t s)) (ends-say (startNode t s)))
-        (λ E′ begun′. starts-right n E′ (s + 1) begun′ (omega arith))
+    -- The places, from h on.
+    places-right :
+        (n : ℕ) (E : List Entry) (h : ℕ) → Stands E h → (t .states + 1) * t .worlds + 1 ≤ h + n →
+        Owes t Through (placesFrom t n E h)
+    unfolding placesFrom
+    places-right zero E h (at-place stage) fuel = absurd (omega (arith, place-bound E h (firstLabel h) stage .1))
+    places-right zero E h (behind-last through end) fuel = through
+    places-right (suc n) E h (at-place stage) fuel =
+        rw (le-leb h (length E) (place-bound E h (firstLabel h) stage .0), Owes)
+        (and-then (λ E′. Stage t E′ h (labelsEnd t h)) Through
+        (labelsFrom t (labels t h) E h (firstLabel h)) (λ E′. placesFrom t n E′ (h + 1))
+        (labels-right (labels t h) E h (firstLabel h) stage (omega arith) (labels-end t h))
+        (λ E′ stage′. places-right n E′ (h + 1) (rw add-one (next-place E′ h stage′)) (omega arith)))
+    places-right (suc n) E h (behind-last through end) fuel = rw (lt-leb h (length E) end, Owes) through
 
-    conclusion-right : (r : Turn) → Owes Through r → Right t (conclusion r)
+    -- Where all entries were tried, the conclusion is right.
+    conclusion-right : (r : Turn) → Owes t Through r → Right t (conclusion r)
     unfolding Right
     conclusion-right (answers v) h = h
     conclusion-right (goes-on E) (i, at, end) = table-right t wf E i at end
@@ -198,8 +108,21 @@ module _ (t : Tables) where
     pub verdict-right : Right t (verdictOf t)
     unfolding verdictOf
     verdict-right =
-        conclusion-right (andThen (startsFrom t (t .worlds) [] 0) (λ E. entriesFrom t ((t .states + 1) * t .worlds) E 0))
-        (and-then (λ E. Begun (graph t) E (t .worlds)) Through
-        (startsFrom t (t .worlds) [] 0) (λ E. entriesFrom t ((t .states + 1) * t .worlds) E 0)
-        (starts-right (t .worlds) [] 0 (begin-empty (graph t)) (omega arith))
-        (λ E begun. entries-right ((t .states + 1) * t .worlds) E 0 (at-entry (starts-done t wf E begun)) (omega arith)))
+        conclusion-right (placesFrom t ((t .states + 1) * t .worlds + 1) [] 0)
+        (places-right ((t .states + 1) * t .worlds + 1) [] 0 (at-place (begin-empty (graph t))) (omega arith))
+
+    -- ---- a failing answer
+
+    module _ {kind : FailureKind} {s : WorldState} {line : Line} (e : verdictOf t ≡ failed kind s line) where
+      -- It is the counterexample.
+      counterexample : Counterexample t kind s line
+      unfolding Right
+      counterexample = subst (Right t) e verdict-right
+
+      -- Its line has at most S·W + 1 lamps.
+      pub failing-short : length (line .lamps) ≤ t .states * t .worlds + 1
+      failing-short = counterexample .short
+
+      -- Its start is a world state of the tables.
+      pub failing-start : s .0 < t .worlds
+      failing-start = wf .start-range s (counterexample .fails .marked)

@@ -1,17 +1,18 @@
 -- The answer of the check as a function of the tables: a search with a table of the pairs found so far, each with the start and
--- the lamps by which it was found. Starts, entries and kinds are tried in order, and the first failure met is the answer.
+-- the lamps by which it was found. It goes through places. At place 0 the starts are tried, with the empty line; at place h + 1 the
+-- line of the entry h is tried with one lamp more, of each kind. Places and their labels are tried in order, and the first failure
+-- met is the answer.
 use mathlib.Core.Bool.{Bool, true, false, _||_}
 use mathlib.Core.List.{List, [], _∷_}
 use Prim.Native.Nat.{ℕ, zero, suc, _+_, _*_}
-use lib.Dec.{eqb, ltb}
+use lib.Dec.{eqb, leb}
 use lib.ListN.{length}
 use Rattle.lamp_line.specs.declared.FailureKind.{FailureKind}
 use Rattle.lamp_line.specs.Tables.{Tables, worldState, lampColumn}
 use Rattle.lamp_line.specs.Check.{Verdict, accepted, failed}
 use Rattle.run_laws.specs.Lines.{lineOf}
 use Rattle.search_laws.specs.Lists.{_▸_}
-use Rattle.search_laws.proofs.Table.{Entry, entry, node, start, path}
-use Rattle.search_laws.proofs.Grown.{grown, onward}
+use Rattle.search_laws.specs.Entries.{Entry, entry, node, start, path, grown}
 use Rattle.check_laws.specs.Fates.{Fate, succeeds, fails, arrives, AtEnds, good, bad, startNode, fate, atEnds}
 
 -- What a part of the search comes to: the answer, or the table with which the search goes on.
@@ -33,17 +34,29 @@ met (v ∷ E) y = eqb (v .node) y || met E y
 abbrev pub failing : FailureKind → ℕ → List ℕ → ℕ → Turn
 failing kind s lamps end = answers (failed kind (worldState s) (lineOf end lamps))
 
--- The entry h, past a lamp of the kind k, arrives with the pair y. A pair that was met before is left out.
-abbrev pub arrival : List Entry → ℕ → ℕ → ℕ → Bool → AtEnds → Turn
-arrival E h k y true ends = goes-on E
-arrival E h k y false good = goes-on (grown E (onward E h k y))
-arrival E h k y false (bad e kind) = failing kind (start E h) (path E h ▸ k) e
+-- The start and the lamps of the line that is tried at a place with a label.
+abbrev pub lineStart : List Entry → ℕ → ℕ → ℕ
+lineStart E zero s = s
+lineStart E (suc h) k = start E h
 
--- The pair x of the start s is tested at the ends of the empty line.
-abbrev pub beginning : List Entry → ℕ → ℕ → Bool → AtEnds → Turn
-beginning E s x false ends = goes-on E
-beginning E s x true good = goes-on (grown E (entry x s []))
-beginning E s x true (bad e kind) = failing kind s [] e
+abbrev pub lineLamps : List Entry → ℕ → ℕ → List ℕ
+lineLamps E zero s = []
+lineLamps E (suc h) k = path E h ▸ k
+
+-- The entry of the pair y, found by that line.
+abbrev pub lineEntry : List Entry → ℕ → ℕ → ℕ → Entry
+lineEntry E h k y = entry y (lineStart E h k) (lineLamps E h k)
+
+-- A pair that was met before is left out; another is put in the table, unless a line that ends with it fails.
+abbrev pub visited : List Entry → Entry → Bool → AtEnds → Turn
+visited E z true ends = goes-on E
+visited E z false good = goes-on (grown E z)
+visited E z false (bad e kind) = failing kind (z .start) (z .path) e
+
+-- The first label of a place.
+abbrev pub firstLabel : ℕ → ℕ
+firstLabel zero = 0
+firstLabel (suc h) = 1
 
 -- Where no failure was met, the plan is accepted with the number of pairs found.
 abbrev pub conclusion : Turn → Verdict
@@ -51,34 +64,45 @@ conclusion (answers v) = v
 conclusion (goes-on E) = accepted (length E)
 
 module _ (t : Tables) where
+  -- The line comes to its end with the pair of this entry.
+  abbrev pub visit : List Entry → Entry → Turn
+  visit E z = visited E z (met E (z .node)) (atEnds t (z .node))
+
+  -- The start s, if it is marked.
+  abbrev pub atStart : List Entry → ℕ → Bool → Turn
+  atStart E s false = goes-on E
+  atStart E s true = visit E (lineEntry E zero s (startNode t s))
+
   -- The entry h, at a lamp of the kind k, has this fate.
-  abbrev pub turn : List Entry → ℕ → ℕ → Fate → Turn
-  turn E h k succeeds = goes-on E
-  turn E h k (fails kind) = failing kind (start E h) (path E h ▸ k) 0
-  turn E h k (arrives y) = arrival E h k y (met E y) (atEnds t y)
+  abbrev pub atLamp : List Entry → ℕ → ℕ → Fate → Turn
+  atLamp E h k succeeds = goes-on E
+  atLamp E h k (fails kind) = failing kind (lineStart E (suc h) k) (lineLamps E (suc h) k) 0
+  atLamp E h k (arrives y) = visit E (lineEntry E (suc h) k y)
 
-  -- The entry h is tried with n kinds from k on.
-  unfoldable pub kindsFrom : ℕ → List Entry → ℕ → ℕ → Turn
-  kindsFrom zero E h k = goes-on E
-  kindsFrom (suc n) E h k =
-      andThen (turn E h k (fate t (node E h) (lampColumn t k))) (λ E′. kindsFrom n E′ h (k + 1))
+  -- One label at one place.
+  unfoldable pub tried : List Entry → ℕ → ℕ → Turn
+  tried E zero s = atStart E s (t .start (worldState s))
+  tried E (suc h) k = atLamp E h k (fate t (node E h) (lampColumn t k))
 
-  -- The entries from h on are tried, n of them at most.
-  unfoldable pub entriesFrom : ℕ → List Entry → ℕ → Turn
-  entriesFrom zero E h = goes-on E
-  entriesFrom (suc n) E h =
-      elim (ltb h (length E)) [
+  -- How many labels a place has.
+  abbrev pub labels : ℕ → ℕ
+  labels zero = t .worlds
+  labels (suc h) = t .kinds
+
+  -- At the place h, n labels from k on.
+  unfoldable pub labelsFrom : ℕ → List Entry → ℕ → ℕ → Turn
+  labelsFrom zero E h k = goes-on E
+  labelsFrom (suc n) E h k = andThen (tried E h k) (λ E′. labelsFrom n E′ h (k + 1))
+
+  -- The places from h on, n of them at most. There is one more than entries in the table.
+  unfoldable pub placesFrom : ℕ → List Entry → ℕ → Turn
+  placesFrom zero E h = goes-on E
+  placesFrom (suc n) E h =
+      elim (leb h (length E)) [
         | false ↦ goes-on E
-        | true ↦ andThen (kindsFrom (t .kinds) E h 1) (λ E′. entriesFrom n E′ (h + 1))
+        | true ↦ andThen (labelsFrom (labels h) E h (firstLabel h)) (λ E′. placesFrom n E′ (h + 1))
       ]
-
-  -- The marked ones of n starts from s on are taken.
-  unfoldable pub startsFrom : ℕ → List Entry → ℕ → Turn
-  startsFrom zero E s = goes-on E
-  startsFrom (suc n) E s =
-      andThen (beginning E s (startNode t s) (t .start (worldState s)) (atEnds t (startNode t s)))
-      (λ E′. startsFrom n E′ (s + 1))
 
   -- There are (S + 1)·W pairs, so no more entries than these.
   unfoldable pub verdictOf : Verdict
-  verdictOf = conclusion (andThen (startsFrom (t .worlds) [] 0) (λ E. entriesFrom ((t .states + 1) * t .worlds) E 0))
+  verdictOf = conclusion (placesFrom ((t .states + 1) * t .worlds + 1) [] 0)

@@ -24,13 +24,9 @@ use Rattle.run_laws.proofs.Actions.{act-final, ends-halted}
 use Rattle.run_laws.proofs.Walks.{walkAfter, walk-spent, walk-ends, walk-stays, walk-passes, walk-means}
 use Rattle.run_laws.proofs.Walks.{Lingers, not-ended, stays-on, WalkMeans, rests, lingers, arrives}
 use Rattle.run_laws.proofs.Circling.{lingers-forever, lingers-passes-none}
+use Rattle.fate_laws.specs.Fates.{uncounted}
 use Rattle.fate_laws.specs.Stretches.{next, far}
 use Rattle.fate_laws.proofs.Stretches.{far-first, far-joined}
-
--- What a walk comes to, without the steps that it counts.
-abbrev pub uncounted : Walk → Walk
-uncounted (ended x k) = ended x 0
-uncounted (arrived p k) = arrived p 0
 
 -- What a stretch says of the lamp, if what still stays is taken to circle.
 abbrev pub settled : Move → Walk

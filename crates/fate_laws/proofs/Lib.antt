@@ -1,2 +1,3 @@
 pub mod Fates
+pub mod StepFates
 pub mod Stretches

@@ -1,15 +1,13 @@
--- Laws of stretches of actions at one column: two stretches put together are one, so that stretches which are doubled again and
--- again soon stand for any number of actions.
-use mathlib.Core.Path.{_≡_, refl, ap, _∙_}
-use mathlib.Core.List.{[]}
+-- Laws of stretches of actions at one column: two stretches put together are one, and from a pair of the tables they lead to
+-- pairs of the tables.
+use mathlib.Core.Path.{_≡_, refl, sym, ap, subst, _∙_}
 use Prim.Native.Nat.{ℕ, zero, suc, _+_}
 use native.Mathlib.Nat.{zero-add, suc-add}
+use native.Mathlib.Omega.{arith}
 use Rattle.lamp_line.specs.Tables.{Tables, WellFormed}
 use Rattle.lamp_line.specs.Run.{Pair, Move, ends, stays, passes, act}
 use Rattle.run_laws.specs.Pairs.{InRange}
-use Rattle.run_laws.proofs.Steps.{step-in-range}
-use Rattle.run_laws.specs.Lines.{lineOf}
-use Rattle.run_laws.proofs.Actions.{MoveMeans, act-means}
+use Rattle.run_laws.proofs.Actions.{stays-in-range}
 use Rattle.fate_laws.specs.Stretches.{next, far}
 
 module _ (t : Tables) (c : ℕ) where
@@ -24,7 +22,7 @@ module _ (t : Tables) (c : ℕ) where
   next-none (passes p) = refl
 
   -- One action.
-  pub far-one : (p : Pair) → far t c 1 p ≡ act t p c
+  far-one : (p : Pair) → far t c 1 p ≡ act t p c
   unfolding far
   far-one p = next-none (act t p c)
 
@@ -41,37 +39,26 @@ module _ (t : Tables) (c : ℕ) where
   far-add (suc m) n p =
       rw suc-add (next-next (act t p c) (λ p′. far t c (m + n) p′) (λ p′. far t c m p′) (λ p′. far t c n p′) (λ p′. far-add m n p′))
 
-  -- The same where it is known that the first m actions come to y: doubling puts two stretches together so.
+  -- The same where it is known that the first m actions come to y.
   pub far-joined : (m n : ℕ) (p : Pair) (y : Move) → far t c m p ≡ y → far t c (m + n) p ≡ next y (λ p′. far t c n p′)
   far-joined m n p y e = far-add m n p ∙ ap (λ (y : Move). next y (λ p′. far t c n p′)) e
 
+  -- Actions that stay, and one more.
+  pub far-more : (n : ℕ) (p p′ : Pair) (m : Move) → far t c n p ≡ stays p′ → act t p′ c ≡ m → far t c (n + 1) p ≡ m
+  far-more n p p′ m e f = far-joined n 1 p (stays p′) e ∙ far-one p′ ∙ f
+
 -- ---- stretches keep to the pairs of the tables
 
--- Where a move leads to a pair, it is one of the tables.
-abbrev pub LeadsInRange : Tables → Move → Type 0
-LeadsInRange t (ends x) = Unit {0}
-LeadsInRange t (stays p) = InRange t p
-LeadsInRange t (passes p) = InRange t p
-
 module _ (t : Tables) (wf : WellFormed t) (c : ℕ) where
-  act-in-range : (p : Pair) → LeadsInRange t (act t p c)
-  unfolding MoveMeans
-  act-in-range p = go (act t p c) (act-means t p (lineOf c []))
-    where
-      go : (m : Move) → MoveMeans t p (lineOf c []) m → LeadsInRange t m
-      go (ends x) h = tt
-      go (stays p′) (l, made) = step-in-range t wf made
-      go (passes p′) (l, made, moves) = step-in-range t wf made
-
-  next-in-range :
-      (m : Move) (more : Pair → Move) → LeadsInRange t m → ((p : Pair) → InRange t p → LeadsInRange t (more p)) →
-      LeadsInRange t (next m more)
-  next-in-range (ends x) more h k = tt
-  next-in-range (stays p) more h k = k p h
-  next-in-range (passes p) more h k = h
-
-  -- From a pair of the tables a stretch leads to pairs of the tables.
-  pub far-in-range : (n : ℕ) (p : Pair) → InRange t p → LeadsInRange t (far t c n p)
+  -- From a pair of the tables actions that stay lead to a pair of the tables.
+  pub stays-within : (n : ℕ) (p p′ : Pair) → InRange t p → far t c n p ≡ stays p′ → InRange t p′
   unfolding far
-  far-in-range zero p range = range
-  far-in-range (suc n) p range = next-in-range (act t p c) (λ p′. far t c n p′) (act-in-range p) (far-in-range n)
+  stays-within zero p p′ range e = let same : p ≡ p′ = cc in subst (InRange t) same range
+  stays-within (suc n) p p′ range e = go (λ p″ within. stays-within n p″ p′ within) (act t p c) refl e
+    where
+      go :
+          ((p″ : Pair) → InRange t p″ → far t c n p″ ≡ stays p′ → InRange t p′) → (m : Move) → act t p c ≡ m →
+          next m (λ p″. far t c n p″) ≡ stays p′ → InRange t p′
+      go after (ends x) f e = absurd (let z : _≡_ {A = ℕ} 0 1 = cc in omega arith)
+      go after (stays p″) f e = after p″ (stays-in-range t wf p p″ c (sym f)) e
+      go after (passes p″) f e = absurd (let z : _≡_ {A = ℕ} 0 1 = cc in omega arith)

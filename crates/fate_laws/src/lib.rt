@@ -1,1 +1,1 @@
-// The laws behind the table of fates, in proofs/: stretches of actions at one column, and what they say of the one-lamp walk.
+// The laws behind the memory of fates, in proofs/: stretches of actions at one column, and what they say of the one-lamp walk.

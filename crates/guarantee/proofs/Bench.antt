@@ -10,7 +10,7 @@ use Rattle.lamp_line.specs.Run.{act, walk, ownSteps}
 use Rattle.lamp_line.specs.Check.{Verdict, accepted, failed, Right}
 use Rattle.run_laws.specs.Pairs.{pairNumber}
 use Rattle.check_laws.specs.Fates.{pairOf, fate, endsFrom}
-use Rattle.check_laws.specs.Search.{met, kindsFrom, entriesFrom, startsFrom, verdictOf}
+use Rattle.check_laws.specs.Search.{met, tried, labelsFrom, placesFrom, verdictOf}
 use Rattle.check_laws.proofs.VerdictRight.{verdict-right}
 use Rattle.job_layout.specs.Layout.{head}
 use Rattle.job_layout.specs.BenchLine.{each, planOf, bench, G, G-unflagged, G-circling, G-no-branch, G-final, G-test-first, G-five}
@@ -40,7 +40,7 @@ pub record BenchLine : Type 0 where
   pub five-states : FailsOn G-five NoBranch (1 ∷ 1 ∷ [])
 
 pub bench-line : BenchLine
-unfolding each planOf bench G G-unflagged G-circling G-no-branch G-final G-test-first G-five columns endKinds lampColumn refusal answerBy some-below numberWrong pairWrong lengthWrong readingOf act walk ownSteps pairNumber pairOf fate endsFrom met kindsFrom entriesFrom startsFrom verdictOf
+unfolding each planOf bench G G-unflagged G-circling G-no-branch G-final G-test-first G-five columns endKinds lampColumn refusal answerBy some-below numberWrong pairWrong lengthWrong readingOf act walk ownSteps pairNumber pairOf fate endsFrom met tried labelsFrom placesFrom verdictOf
 bench-line =
     record {
       runs = bench-runs;

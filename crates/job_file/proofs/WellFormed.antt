@@ -246,3 +246,10 @@ sound s j opened =
       laid = placed;
       well-formed = subst (λ (h : Job). WellFormed (tablesBy s h)) (none .is-head) (tables-well-formed s j none placed);
     }
+
+-- The tables by the job that the reader answered are the file's, so they are well-formed too.
+pub tables-are : (s : List ℕ) (j : Job) → Opened s j → tablesBy s j ≡ tablesOf s
+tables-are s j opened = ap (tablesBy s) (sound s j opened .is-head)
+
+pub well-formed-by : (s : List ℕ) (j : Job) → Opened s j → WellFormed (tablesBy s j)
+well-formed-by s j opened = rw (tables-are s j opened) (sound s j opened .well-formed)

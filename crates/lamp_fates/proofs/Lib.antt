@@ -1,4 +1,7 @@
-pub mod AllColumns
+pub mod BlankMemory
 pub mod Entries
-pub mod JobColumns
-pub mod Rounds
+pub mod LinkLaws
+pub mod Places
+pub mod Tally
+pub mod WalkTurns
+pub mod WriteTurns

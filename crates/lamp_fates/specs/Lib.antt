@@ -1,2 +1,2 @@
-pub mod ColumnTable
-pub mod FateTable
+pub mod Links
+pub mod Memory

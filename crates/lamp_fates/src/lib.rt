@@ -1,37 +1,52 @@
-// The fates of all pairs at all columns in one table, for a check in which walking takes too long: its search then only reads it.
-// A column is filled by doubling: an entry says what so many actions come to, and in a round each entry that stays becomes the
-// entry of the pair at which it stays. So the time grows with the tables and not with the length of the walks.
+// What a pair comes to at a column, learnt by a walk when it is first asked for and remembered for all pairs on the way. So a
+// step is walked once, whatever is asked, and in what order.
+//
+// A walk leaves a link to the next pair at each pair that it stays at the lamp with. Where it ends, the way is gone once more
+// along the links, and each of them gives way to what was learnt. A walk that comes to a link has come back to a pair of its own:
+// it circles.
 ghost use mathlib.Core.Path.{_≡_};
-ghost use Prim.Native.Nat.{_+_, _*_, _<_, _≤_};
-ghost use lib.ListN.{length, getD};
+ghost use mathlib.Core.List.{List};
+ghost use Prim.Native.Nat.{ℕ, _+_, _*_, _<_};
 ghost use Rattle.lamp_line.specs.Tables.{columns};
-ghost use Rattle.lamp_line.specs.Endings.{kindNumber};
-ghost use Rattle.lamp_line.specs.Run.{ended};
-ghost use Rattle.job_layout.specs.JobTables.{tablesOf};
+ghost use Rattle.lamp_line.specs.Run.{pair, ended};
+ghost use Rattle.job_layout.specs.JobTables.{tablesBy};
 ghost use Rattle.job_file.specs.Reading.{Opened};
-ghost use Rattle.lamp_walk.specs.WalkAnswers.{moveOf};
-ghost use Rattle.lamp_fates.specs.FateTable.{fatePlace, fateEntry, HoldsFates};
-ghost use Rattle.lamp_fates.specs.ColumnTable.{columnSize, moveEntry, Entry, Reaches, IsColumn, Doubled};
-ghost use Rattle.lamp_fates.specs.ColumnTable.{StaysBelow, followed, settledEntry, SettledTo, ColumnFates};
+ghost use Rattle.run_laws.specs.Pairs.{InRange, pairNumber};
+ghost use Rattle.lamp_fates.specs.Memory.{walkTo, pairCode, fateEntry, fateFrom, Memory, LookedUp};
+ghost use Rattle.lamp_fates.specs.Links.{WalkedTo};
 use job_layout::Job;
-use job_layout::places::column_count;
 use lamp_line::Ending;
 use lamp_line::FailureKind;
 use lamp_line::ProgramState;
 use lamp_line::WorldState;
+use lamp_line::failure_number;
 use lamp_walk::Move;
+use lamp_walk::judge;
 use lamp_walk::one_action;
 
-// The entry of a failure.
-fn kind_entry(kind: FailureKind) -> u16
-    ensures { λ r. ⌜ r ≡ 1 + kindNumber kind ⌝ }
+// What a pair comes to at a column: the run ends with the goal true, fails, or arrives at the next lamp with a pair.
+pub enum Fate {
+    Succeeds,
+    Fails(FailureKind),
+    Arrives(ProgramState, WorldState),
+}
+
+// An entry from this number on is a link, to the pair with the number that is left when it is taken away: the next place is found
+// by that number alone.
+const LINKS: u16 = 8192;
+
+// The number of a pair among all pairs.
+pub fn pair_number(state: ProgramState, world: WorldState, worlds: u8) -> usize
+    ensures { λ r. ⌜ r ≡ pairNumber worlds (pair state world) ⌝ }
 {
-    match kind {
-        FailureKind::NotLegal => 2,
-        FailureKind::NoBranch => 3,
-        FailureKind::Circles => 4,
-        FailureKind::GoalFalse => 5,
-    }
+    state.row(worlds as u16) + world.row(1)
+}
+
+// The code of a pair.
+fn pair_code(state: ProgramState, world: WorldState) -> u16
+    ensures { λ r. ⌜ r ≡ pairCode (pair state world) ⌝ }
+{
+    (state.row(64) + world.row(1)) as u16
 }
 
 // The entry of an ending.
@@ -40,142 +55,133 @@ fn ending_entry(ending: Ending) -> u16
 {
     match ending {
         Ending::Goal => 1,
-        Ending::Failure(kind) => kind_entry(kind),
+        Ending::Failure(kind) => 1 + failure_number(kind) as u16,
     }
 }
 
-// Where a pair stands in a column.
-fn pair_place(state: ProgramState, world: WorldState) -> usize
-    ensures { λ r. ⌜ r ≡ state .0 * 64 + world .0 ⌝ }
+// The fate that an entry stands for, which is neither 0 nor a link.
+fn entry_fate(entry: u16) -> Fate
+    requires { ⌜ entry < 8192 ⌝ }
+    ensures { λ r. ⌜ walkTo r ≡ fateFrom entry ⌝ }
 {
-    state.row(64) + world.row(1)
+    if entry == 1 {
+        return Fate::Succeeds;
+    }
+    if entry == 2 {
+        return Fate::Fails(FailureKind::NotLegal);
+    }
+    if entry == 3 {
+        return Fate::Fails(FailureKind::NoBranch);
+    }
+    if entry == 4 {
+        return Fate::Fails(FailureKind::Circles);
+    }
+    if entry < 16 {
+        return Fate::Fails(FailureKind::GoalFalse);
+    }
+    let code = entry - 16;
+    Fate::Arrives(
+        ProgramState((code / 64) as u8),
+        WorldState((code % 64) as u8),
+    )
 }
 
-// The entry of a move: its fate, or from 8,192 on the pair at which it stays so far.
-fn move_entry(step: Move) -> u16
-    ensures { λ r. ⌜ r ≡ moveEntry (moveOf step) ⌝ }
+// Where the memory has the first entry of a column.
+fn first_place(job: Job, column: u8) -> usize
+    ensures { λ r. ⌜ r ≡ column * ((job .states + 1) * job .worlds) ⌝ }
 {
-    match step {
-        Move::Ends(ending) => ending_entry(ending),
-        Move::Stays(to, next) => (8192 + pair_place(to, next)) as u16,
-        Move::Passes(to, next) => (16 + pair_place(to, next)) as u16,
+    column as usize * ((job.states as usize + 1) * job.worlds as usize)
+}
+
+// Where the memory has the entry of a pair at a column.
+fn entry_place(job: Job, state: ProgramState, world: WorldState, column: u8) -> usize
+    ensures { λ r. ⌜ r ≡ column * ((job .states + 1) * job .worlds) + pairNumber (job .worlds) (pair state world) ⌝ }
+{
+    first_place(job, column) + pair_number(state, world, job.worlds)
+}
+
+// Walks from the pair to its fate, whose entry is answered, and leaves links along the way.
+fn walk_to_fate(
+    file: &[u8],
+    job: Job,
+    memory: &mut [u16],
+    state: ProgramState,
+    world: WorldState,
+    column: u8,
+) -> u16
+    requires { ⌜ Opened (now file) job × Memory (tablesBy (now file) job) (now memory)
+        × InRange (tablesBy (now file) job) (pair state world) × (column < columns (job .kinds)) ⌝ }
+    ensures { λ r. ⌜ WalkedTo (tablesBy (now (file .entry)) job) (pair state world) column r (now (memory .exit)) ⌝ }
+{
+    let mut q = state;
+    let mut w = world;
+    loop {
+        let place = entry_place(job, q, w, column);
+        let entry = memory[place];
+        if entry != 0 {
+            if entry < LINKS {
+                return entry;
+            }
+            return ending_entry(Ending::Failure(FailureKind::Circles));
+        }
+        let step = one_action(file, job, q, w, column);
+        match step {
+            Move::Ends(ending) => return ending_entry(ending),
+            Move::Passes(to, next) => return 16 + pair_code(to, next),
+            Move::Stays(to, next) => {
+                if to.0 == job.states {
+                    return ending_entry(judge(file, job, next, column));
+                }
+                memory[place] = LINKS + pair_number(to, next, job.worlds) as u16;
+                q = to;
+                w = next;
+            }
+        }
     }
 }
 
-// The entry at place i for one action, and 0 where the place is of no world state.
-fn first_entry(file: &[u8], job: Job, column: u8, i: usize) -> u16
-    requires { ⌜ Opened (now file) job × (column < columns (job .kinds)) × (i < columnSize (job .states)) ⌝ }
-    ensures { λ r. ⌜ Entry (tablesOf (now (file .entry))) column 1 i r ⌝ }
+// Writes the entry at the pair and at every pair that the links lead to. It reads no file: its contract speaks of any with this
+// job.
+fn write_along(
+    job: Job,
+    memory: &mut [u16],
+    state: ProgramState,
+    world: WorldState,
+    column: u8,
+    entry: u16,
+)
+    requires { ⌜ ((s : List ℕ) × WalkedTo (tablesBy s job) (pair state world) column entry (now memory)) ⌝ }
+    ensures { λ _. ⌜ ((s : List ℕ) → WalkedTo (tablesBy s job) (pair state world) column entry (now (memory .entry))
+        → Memory (tablesBy s job) (now (memory .exit))) ⌝ }
 {
-    let world = (i % 64) as u8;
-    if job.worlds <= world {
-        return 0;
-    }
-    let state = (i / 64) as u8;
-    let step = one_action(file, job, ProgramState(state), WorldState(world), column);
-    move_entry(step)
-}
-
-// The first n entries of a column for one action.
-fn first_entries(file: &[u8], job: Job, column: u8, table: &mut [u16], n: usize)
-    requires { ⌜ Opened (now file) job × (column < columns (job .kinds))
-        × (n ≡ columnSize (job .states)) × (n ≤ length (now table)) ⌝ }
-    ensures { λ _. ⌜ Reaches (tablesOf (now (file .entry))) column 1 n (now (table .exit)) ⌝ }
-{
-    let mut i = 0;
-    while i < n {
-        let entry = first_entry(file, job, column, i);
-        table[i] = entry;
-        i += 1;
-    }
-}
-
-// The entry of the pair at which an entry stays, or the entry itself where it does not stay.
-fn follow(table: &[u16], entry: u16) -> u16
-    requires { ⌜ StaysBelow (length (now table)) entry ⌝ }
-    ensures { λ r. ⌜ r ≡ followed (now (table .entry)) entry ⌝ }
-{
-    if entry < 8192 {
-        return entry;
-    }
-    let place = (entry - 8192) as usize;
-    table[place]
-}
-
-// A round: each of the n entries of a column is followed. Some of those that it is followed to are already of this round, and so
-// stand for more actions than are asked for.
-fn one_round(table: &mut [u16], n: usize)
-    requires { ⌜ IsColumn n (now table) × (n ≤ length (now table)) ⌝ }
-    ensures { λ _. ⌜ Doubled n n (now (table .entry)) (now (table .exit)) ⌝ }
-{
-    let mut i = 0;
-    while i < n {
-        let entry = table[i];
-        let further = follow(table, entry);
-        table[i] = further;
-        i += 1;
+    let base = first_place(job, column);
+    let mut pair = pair_number(state, world, job.worlds);
+    loop {
+        let place = base + pair;
+        let next = memory[place];
+        memory[place] = entry;
+        if next < LINKS {
+            return;
+        }
+        pair = (next - LINKS) as usize;
     }
 }
 
-// What still stays after more than S·W actions circles.
-fn settle(entry: u16) -> u16
-    ensures { λ r. ⌜ r ≡ settledEntry entry ⌝ }
+// What the pair comes to at the column. It is for the crates above and not for users: it asks for the job that the reader
+// answered for this file, for a memory, and for a pair and a column of the tables.
+pub fn fate_at(
+    file: &[u8],
+    job: Job,
+    memory: &mut [u16],
+    state: ProgramState,
+    world: WorldState,
+    column: u8,
+) -> Fate
+    requires { ⌜ Opened (now file) job × Memory (tablesBy (now file) job) (now memory)
+        × InRange (tablesBy (now file) job) (pair state world) × (column < columns (job .kinds)) ⌝ }
+    ensures { λ r. ⌜ LookedUp (tablesBy (now (file .entry)) job) (pair state world) column r (now (memory .exit)) ⌝ }
 {
-    if entry < 8192 {
-        return entry;
-    }
-    kind_entry(FailureKind::Circles)
-}
-
-// The first n entries of a column are settled.
-fn settle_entries(table: &mut [u16], n: usize)
-    requires { ⌜ n ≤ length (now table) ⌝ }
-    ensures { λ _. ⌜ SettledTo n (now (table .entry)) (now (table .exit)) ⌝ }
-{
-    let mut i = 0;
-    while i < n {
-        let entry = table[i];
-        table[i] = settle(entry);
-        i += 1;
-    }
-}
-
-// The fates at one column: the first actions, then rounds, at most 13, until the entries stand for more than S·W actions. What
-// still stays then circles.
-fn fill_column(file: &[u8], job: Job, column: u8, table: &mut [u16])
-    requires { ⌜ Opened (now file) job × (column < columns (job .kinds)) × (columnSize (job .states) ≤ length (now table)) ⌝ }
-    ensures { λ _. ⌜ ColumnFates (tablesOf (now (file .entry))) column (now (table .exit)) ⌝ }
-{
-    let n = job.states as usize * 64 + 64;
-    first_entries(file, job, column, table, n);
-    let most = job.states as usize * job.worlds as usize;
-    let mut reach = 1;
-    while reach <= most {
-        one_round(table, n);
-        reach = reach + reach;
-    }
-    settle_entries(table, n);
-}
-
-// The fates at all columns. It is for the crates above and not for users: it asks for the job that the reader answered for this
-// file, and for a table of 16 columns.
-pub fn fill_fates(file: &[u8], job: Job, fates: &mut [u16])
-    requires { ⌜ Opened (now file) job × (length (now fates) ≡ 66560) ⌝ }
-    ensures { λ _. ⌜ HoldsFates (tablesOf (now (file .entry))) (now (fates .exit)) × (length (now (fates .exit)) ≡ 66560) ⌝ }
-{
-    let count = column_count(job.kinds);
-    let mut column: u8 = 0;
-    while (column as u16) < count {
-        fill_column(file, job, column, &mut fates[column as usize * 4160..]);
-        column += 1;
-    }
-}
-
-// The entry of a pair at a column.
-pub fn read_fate(fates: &[u16], state: ProgramState, world: WorldState, column: u8) -> u16
-    requires { ⌜ fatePlace (state .0) (world .0) column < length (now fates) ⌝ }
-    ensures { λ r. ⌜ r ≡ getD (now (fates .entry)) (fatePlace (state .0) (world .0) column) 0 ⌝ }
-{
-    let place = column as usize * 4160 + pair_place(state, world);
-    fates[place]
+    let entry = walk_to_fate(file, job, memory, state, world, column);
+    write_along(job, memory, state, world, column, entry);
+    entry_fate(entry)
 }

@@ -44,8 +44,9 @@ pub enum WalkAnswer {
     Refused(u8),
 }
 
-// The ending in state S.
-fn judge(file: &[u8], job: Job, world: WorldState, column: u8) -> Ending
+// The ending in state S. It is for the crates above and not for users: it asks for the job that the reader answered for this file,
+// and for numbers within the tables.
+pub fn judge(file: &[u8], job: Job, world: WorldState, column: u8) -> Ending
     requires { ⌜ Opened (now file) job × (world .0 < job .worlds) × (column < columns (job .kinds)) ⌝ }
     ensures { λ r. ⌜ r ≡ judged (tablesOf (now (file .entry))) world column ⌝ }
 {

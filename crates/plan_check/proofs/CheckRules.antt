@@ -1,11 +1,10 @@
 -- What the check answers, rule by rule.
-use mathlib.Core.Path.{_≡_, refl, sym, subst, _∙_}
-use mathlib.Core.Logic.{_≢_}
+use mathlib.Core.Path.{_≡_, refl, sym, ap₂, subst, _∙_}
 use mathlib.Core.Bool.{Bool, true, false, cond, _||_}
 use mathlib.Core.Option.{Option, none, some}
 use mathlib.Core.List.{List}
 use Prim.Native.Nat.{ℕ, _+_, _*_, _/_, _≤_, _<_}
-use native.Mathlib.Nat.{suc-mul}
+use native.Mathlib.Nat.{suc-mul, mul-comm}
 use native.Mathlib.Numerals.{add-one}
 use native.Mathlib.Omega.{arith}
 use borrow.Author.Tests.{ltb-true, ltb-false, lt-ltb, le-ltb}
@@ -13,26 +12,26 @@ use lib.Dec.{ltb}
 use lib.ListN.{length}
 use Rattle.lamp_line.specs.Refusals.{Rule, refusal}
 use Rattle.job_layout.specs.declared.Job.{Job}
-use Rattle.job_layout.specs.JobTables.{tablesOf}
-use Rattle.job_rules.proofs.HeadLaws.{neither}
+use Rattle.job_layout.specs.JobTables.{tablesBy, tablesOf}
 use Rattle.job_file.specs.declared.Reading.the-variants as reading
 use Rattle.job_file.specs.Reading.{readingOf, Opened}
 use Rattle.job_file.specs.Operations.{checkRules}
 use Rattle.job_file.proofs.Opening.{file-refused, file-opened}
+use Rattle.job_file.proofs.WellFormed.{tables-are, well-formed-by}
 use Rattle.job_tables.proofs.Ranges.{states-are, worlds-are}
-use Rattle.lamp_line.specs.Tables.{Tables}
+use Rattle.lamp_line.specs.Tables.{Tables, columns}
 use Rattle.lamp_line.specs.Check.{Right}
 use Rattle.lamp_line.specs.Refusals.{orRefused, answerBy}
 use Rattle.lamp_line.proofs.Answering.{by-rule, by-no-rule}
+use Rattle.check_laws.proofs.VerdictRight.{verdict-right}
+use Rattle.lamp_fates.specs.Memory.{entries}
+use Rattle.lamp_fates.proofs.BlankMemory.{entries-most}
 use Rattle.plan_search.specs.declared.Found.{Found}
 use Rattle.plan_search.specs.declared.Found.the-variants as found
-use Rattle.plan_search.specs.Searching.{Learnable}
-use Rattle.plan_search.specs.declared.Sought.{Sought}
-use Rattle.plan_search.specs.declared.Sought.the-variants as sought
-use Rattle.plan_search.specs.Answer.{CanSearch, Finds, Seeks}
+use Rattle.plan_search.specs.Searching.{Room, verdictIn, Finds}
 use Rattle.plan_check.specs.declared.CheckAnswer.{CheckAnswer}
 use Rattle.plan_check.specs.declared.CheckAnswer.the-variants as answer
-use Rattle.plan_check.specs.CheckAnswers.{AnsweredRight, Room, answerOf, Lent, CheckedBy, Checked}
+use Rattle.plan_check.specs.CheckAnswers.{AnsweredRight, answerOf, Lent, CheckedBy, Checked}
 
 -- ---- sizes
 
@@ -83,40 +82,20 @@ refused-checked : (o : Option ℕ) (t : Tables) (number : ℕ) (lent : Lent) →
 refused-checked o t number lent e =
     subst (λ (o : Option ℕ). CheckedBy o t (answer.Refused number) lent lent) (sym e) (refl, refl)
 
--- What the search finds is a right answer.
-found-right : (t : Tables) (f : Found) (line line′ : List ℕ) → Finds t f line line′ → AnsweredRight t (answerOf f) line line′
-unfolding AnsweredRight Right
-found-right t (found.Accepted count) line line′ (accepts, same) = (accepts, same)
-found-right t (found.Failed kind start lamps) line line′ names =
-    record { right = names .counterexample; within = names .within; others = names .rest }
-
-module _ (t : Tables) (fates : List ℕ) (x : Sought) (line line′ : List ℕ) (seeks : Seeks t fates x line line′) where
-  -- The search came to its end.
-  pub sought-right : (f : Found) → x ≡ sought.Ended f → AnsweredRight t (answerOf f) line line′
-  sought-right f e = found-right t f line line′ (subst (λ (u : Sought). Seeks t fates u line line′) e seeks)
-
-  -- Walking took too long: the table was empty, and the line buffer is as it was.
-  sought-long : x ≡ sought.Long → (length fates ≡ 0) × (line′ ≡ line)
-  sought-long e = subst (λ (u : Sought). Seeks t fates u line line′) e seeks
-
-  -- So it does not with a filled table.
-  pub table-not-long : length fates ≡ 66560 → x ≢ sought.Long
-  table-not-long filled e = omega (arith, sought-long e .0)
-
-  -- An answer found from there is right from the beginning.
-  pub long-right : x ≡ sought.Long → (r : CheckAnswer) (line″ : List ℕ) → AnsweredRight t r line′ line″ → AnsweredRight t r line line″
-  long-right e r line″ right = subst (λ (l : List ℕ). AnsweredRight t r l line″) (sought-long e .1) right
-
--- A file with room can be searched.
-pub can-search :
-    (s : List ℕ) (j : Job) (fates list words : List ℕ) (line : ℕ) → Room s j line (length list) (length words) →
-    Learnable (tablesOf s) fates → CanSearch s j fates list words
-can-search s j fates list words line room table =
-    record {
-      ready = record { opened = room .opened; table = table };
-      list-room = room .list-room;
-      bits-room = room .words-room;
-    }
+-- What the search finds is a right answer: its answer is the definition's, which is right.
+pub found-right :
+    (s : List ℕ) (j : Job) {f : Found} {line line′ : List ℕ} → Opened s j → Finds (tablesBy s j) f line line′ →
+    AnsweredRight (tablesOf s) (answerOf f) line line′
+unfolding AnsweredRight
+found-right s j {f} {line} {line′} opened finds =
+    subst (λ (t : Tables). AnsweredRight t (answerOf f) line line′) (tables-are s j opened)
+    (go f finds (rw (finds .verdict-is) at (verdict-right (tablesBy s j) (well-formed-by s j opened))))
+  where
+    go :
+        (f : Found) → Finds (tablesBy s j) f line line′ → Right (tablesBy s j) (verdictIn f line′) →
+        AnsweredRight (tablesBy s j) (answerOf f) line line′
+    go (found.Accepted count) finds right = (right, finds .others)
+    go (found.Failed kind start lamps) finds right = record { right = right; within = finds .within; others = finds .others }
 
 module _ (s : List ℕ) (line list words : List ℕ) where
   abbrev lent : Lent
@@ -135,35 +114,53 @@ module _ (s : List ℕ) (line list words : List ℕ) where
         (check-by-rules s (length line) (length list) (length words) j opened ∙ rw (lt-ltb _ _ short))
 
     module _ (enough : j .states * j .worlds + 1 ≤ length line) where
-      -- A working list or words that are too few.
-      pub list-refused :
-          (ltb (length list) (j .states * j .worlds + j .worlds) || ltb (length words) ((j .states * j .worlds + j .worlds + 63) / 64)) ≡ true →
-          Checked s (answer.Refused 13) lent lent
+      -- A working list that is too short.
+      pub list-refused : length list < j .states * j .worlds + j .worlds → Checked s (answer.Refused 13) lent lent
       list-refused short =
           refused-checked _ (tablesOf s) 13 lent
-          (check-by-rules s (length line) (length list) (length words) j opened ∙ rw (le-ltb _ _ enough, short))
+          (check-by-rules s (length line) (length list) (length words) j opened ∙ rw (le-ltb _ _ enough, lt-ltb _ _ short))
 
-      -- A right answer.
-      pub right-checked :
-          (ltb (length list) (j .states * j .worlds + j .worlds) || ltb (length words) ((j .states * j .worlds + j .worlds + 63) / 64)) ≡ false →
-          (r : CheckAnswer) (line′ list′ words′ : List ℕ) → AnsweredRight (tablesOf s) r line line′ →
-          Checked s r lent (record { line = line′; list = list′; words = words′ })
-      right-checked room r line′ list′ words′ right =
-          let none-applies : refusal (checkRules s (length line) (length list) (length words)) ≡ none =
-          check-by-rules s (length line) (length list) (length words) j opened ∙ rw (le-ltb _ _ enough, room) in
-          subst (λ (o : Option ℕ). CheckedBy o (tablesOf s) r lent (record { line = line′; list = list′; words = words′ }))
-          (sym none-applies)
-          right
+      module _ (listed : j .states * j .worlds + j .worlds ≤ length list) where
+        -- Words that are too few.
+        pub words-refused :
+            length words < (j .states * j .worlds + j .worlds + 63) / 64 → Checked s (answer.Refused 13) lent lent
+        words-refused short =
+            refused-checked _ (tablesOf s) 13 lent
+            (check-by-rules s (length line) (length list) (length words) j opened
+            ∙ rw (le-ltb _ _ enough, le-ltb _ _ listed, lt-ltb _ _ short))
 
--- Where no rule applies there is room for the search.
-pub has-room : (s : List ℕ) (j : Job) (line list words : ℕ) → Opened s j → j .states * j .worlds + 1 ≤ line →
-    (ltb list (j .states * j .worlds + j .worlds) || ltb words ((j .states * j .worlds + j .worlds + 63) / 64)) ≡ false →
-    Room s j line list words
-has-room s j line list words opened enough room =
-    let both = neither (ltb list (j .states * j .worlds + j .worlds)) _ room in
-    record {
-      opened = opened;
-      line-room = enough;
-      list-room = rw (all-pairs (j .states) (j .worlds)) (ltb-false _ _ (both .0));
-      words-room = rw (all-pairs (j .states) (j .worlds)) (omega (arith, ltb-false words ((j .states * j .worlds + j .worlds + 63) / 64) (both .1)));
-    }
+        module _ (bits : (j .states * j .worlds + j .worlds + 63) / 64 ≤ length words) where
+          -- A right answer.
+          pub right-checked :
+              (r : CheckAnswer) (line′ list′ words′ : List ℕ) → AnsweredRight (tablesOf s) r line line′ →
+              Checked s r lent (record { line = line′; list = list′; words = words′ })
+          right-checked r line′ list′ words′ right =
+              let none-applies : refusal (checkRules s (length line) (length list) (length words)) ≡ none =
+              check-by-rules s (length line) (length list) (length words) j opened
+              ∙ rw (le-ltb _ _ enough, le-ltb _ _ listed, le-ltb _ _ bits) in
+              subst (λ (o : Option ℕ). CheckedBy o (tablesOf s) r lent (record { line = line′; list = list′; words = words′ }))
+              (sym none-applies)
+              right
+
+          -- There is room for the search.
+          pub has-room : Room (tablesBy s j) (length line) (length list) (length words)
+          has-room =
+              record {
+                line-room = enough;
+                list-room = rw (all-pairs (j .states) (j .worlds)) listed;
+                words-room = rw (all-pairs (j .states) (j .worlds)) (omega arith);
+              }
+
+-- ---- the memory
+
+module _ (s : List ℕ) (j : Job) {count : ℕ} (e : count ≡ columns (j .kinds)) where
+  size-is : (j .states * j .worlds + j .worlds) * count ≡ entries (tablesBy s j)
+  size-is = mul-comm (j .states * j .worlds + j .worlds) count ∙ ap₂ (λ (m n : ℕ). m * n) e (sym (all-pairs (j .states) (j .worlds)))
+
+  -- A memory of this size is enough.
+  pub fits-in : (most : ℕ) → (j .states * j .worlds + j .worlds) * count ≤ most → entries (tablesBy s j) ≤ most
+  fits-in most h = rw size-is at h
+
+  -- And no job wants more than the largest.
+  pub size-bound : Opened s j → (j .states * j .worlds + j .worlds) * count ≤ 66560
+  size-bound opened = rw size-is (entries-most (well-formed-by s j opened))

@@ -2,14 +2,12 @@
 use mathlib.Core.Path.{_≡_}
 use mathlib.Core.Option.{Option, none, some}
 use mathlib.Core.List.{List}
-use Prim.Native.Nat.{ℕ, _+_, _*_, _≤_}
+use Prim.Native.Nat.{ℕ, _≤_}
 use lib.ListN.{length, take, drop}
 use Rattle.lamp_line.specs.Tables.{Tables, Line}
 use Rattle.lamp_line.specs.Refusals.{refusal}
 use Rattle.lamp_line.specs.Check.{accepted, failed, Right}
-use Rattle.job_layout.specs.declared.Job.{Job}
 use Rattle.job_layout.specs.JobTables.{tablesOf}
-use Rattle.job_file.specs.Reading.{Opened}
 use Rattle.job_file.specs.Operations.{checkRules}
 use Rattle.plan_search.specs.declared.Found.{Found}
 use Rattle.plan_search.specs.declared.Found.the-variants as found
@@ -32,13 +30,6 @@ unfoldable pub AnsweredRight : Tables → CheckAnswer → List ℕ → List ℕ 
 AnsweredRight t (answer.Accepted count) line line′ = Right t (accepted count) × (line′ ≡ line)
 AnsweredRight t (answer.Failed f) line line′ = FailedRight t f line line′
 AnsweredRight t (answer.Refused number) line line′ = ⊥
-
--- The file is not refused, and the buffers are of sizes to which refusals 12 and 13 do not apply.
-pub record Room (s : List ℕ) (j : Job) (line list words : ℕ) : Type 0 where
-  pub opened : Opened s j
-  pub line-room : j .states * j .worlds + 1 ≤ line
-  pub list-room : (j .states + 1) * j .worlds ≤ list
-  pub words-room : (j .states + 1) * j .worlds ≤ words * 64
 
 -- What the operation answers of what the search found.
 abbrev pub answerOf : Found → CheckAnswer

@@ -1,19 +1,22 @@
 // The check (document 01, the section of that name): is the plan right on every line of every length, from every marked start?
-// `check_plan` is the operation; it asks nothing of its caller. Small and easy jobs are searched by walking; where that takes long,
-// a table of the fates of all pairs is filled and the search begins anew over it. The table needs about 140 KB of stack.
+// `check_plan` is the operation; it asks nothing of its caller. What its search learns of pairs it keeps in a memory on the stack,
+// which is small where the job is: to clear the largest costs more than a whole check of a small job.
 ghost use mathlib.Core.Path.{_≡_};
+ghost use Prim.Native.Nat.{_≤_};
 ghost use lib.ListN.{length};
-ghost use Rattle.job_layout.specs.JobTables.{tablesOf};
-ghost use Rattle.plan_check.specs.CheckAnswers.{answerOf, Room, AnsweredRight, Checked};
+ghost use Rattle.job_layout.specs.JobTables.{tablesBy, tablesOf};
+ghost use Rattle.job_file.specs.Reading.{Opened};
+ghost use Rattle.lamp_fates.specs.Memory.{entries};
+ghost use Rattle.plan_search.specs.Searching.{Room};
+ghost use Rattle.plan_check.specs.CheckAnswers.{answerOf, AnsweredRight, Checked};
 use job_file::Reading;
 use job_file::read_job;
 use job_file::refusal_number;
 use job_layout::Job;
-use lamp_fates::fill_fates;
+use job_layout::places::column_count;
 use lamp_line::FailureKind;
 use lamp_line::WorldState;
 use plan_search::Found;
-use plan_search::Sought;
 use plan_search::search;
 
 // A failure: its kind, the start, and the number of lamps of its line.
@@ -29,10 +32,6 @@ pub enum CheckAnswer {
     Failed(Failure),
     Refused(u8),
 }
-
-// How many steps are walked before the table of fates is filled. The table costs as much as about 200,000 steps, and 300,000 where
-// steps are cheap, so the whole takes at most about one and a half times what walking alone takes.
-const WALKED_FIRST: u32 = 600000;
 
 fn answer(found: Found) -> CheckAnswer
     ensures { λ r. ⌜ r ≡ answerOf found ⌝ }
@@ -50,40 +49,54 @@ fn answer(found: Found) -> CheckAnswer
     }
 }
 
-// The search over a table of the fates of all pairs, which is filled first, so that the time grows with the size of the tables and
-// not with the length of walks. Over a filled table it does not take too long: the last call is proved not to be made. It is there
-// because the compiler puts no function that calls itself into another, and so leaves the table off the stack until it is needed.
-fn find_in_table(
+// The search with a memory for the smallest jobs.
+fn find_small(
     file: &[u8],
     job: Job,
     line: &mut [u8],
     list: &mut [u32],
     words: &mut [u64],
 ) -> CheckAnswer
-    requires { ⌜ Room (now file) job (length (now line)) (length (now list)) (length (now words)) ⌝ }
+    requires { ⌜ Opened (now file) job
+        × Room (tablesBy (now file) job) (length (now line)) (length (now list)) (length (now words))
+        × (entries (tablesBy (now file) job) ≤ 256) ⌝ }
     ensures { λ r. ⌜ AnsweredRight (tablesOf (now (file .entry))) r (now (line .entry)) (now (line .exit)) ⌝ }
 {
-    let mut fates = [0u16; 66560];
-    fill_fates(file, job, &mut fates);
-    let sought = search(&fates, file, job, line, list, words, 0);
-    match sought {
-        Sought::Ended(found) => answer(found),
-        Sought::Long => find_in_table(file, job, line, list, words),
-    }
+    let mut memory = [0u16; 256];
+    answer(search(file, job, &mut memory, line, list, words))
 }
 
-// The search in a file that is not refused, with buffers of sizes to which refusals 12 and 13 do not apply: by walking, and where
-// that takes too long, anew over a table.
-fn find(file: &[u8], job: Job, line: &mut [u8], list: &mut [u32], words: &mut [u64]) -> CheckAnswer
-    requires { ⌜ Room (now file) job (length (now line)) (length (now list)) (length (now words)) ⌝ }
+// The search with a memory for jobs of middle size.
+fn find_middle(
+    file: &[u8],
+    job: Job,
+    line: &mut [u8],
+    list: &mut [u32],
+    words: &mut [u64],
+) -> CheckAnswer
+    requires { ⌜ Opened (now file) job
+        × Room (tablesBy (now file) job) (length (now line)) (length (now list)) (length (now words))
+        × (entries (tablesBy (now file) job) ≤ 8192) ⌝ }
     ensures { λ r. ⌜ AnsweredRight (tablesOf (now (file .entry))) r (now (line .entry)) (now (line .exit)) ⌝ }
 {
-    let none = [0u16; 0];
-    let sought = search(&none, file, job, line, list, words, WALKED_FIRST);
-    match sought {
-        Sought::Ended(found) => answer(found),
-        Sought::Long => find_in_table(file, job, line, list, words),
-    }
+    let mut memory = [0u16; 8192];
+    answer(search(file, job, &mut memory, line, list, words))
+}
+
+// The search with a memory for every job: at most 65 times 64 pairs at 16 columns.
+fn find_large(
+    file: &[u8],
+    job: Job,
+    line: &mut [u8],
+    list: &mut [u32],
+    words: &mut [u64],
+) -> CheckAnswer
+    requires { ⌜ Opened (now file) job
+        × Room (tablesBy (now file) job) (length (now line)) (length (now list)) (length (now words)) ⌝ }
+    ensures { λ r. ⌜ AnsweredRight (tablesOf (now (file .entry))) r (now (line .entry)) (now (line .exit)) ⌝ }
+{
+    let mut memory = [0u16; 66560];
+    answer(search(file, job, &mut memory, line, list, words))
 }
 
 // The check of the plan of any file, with a lent line buffer, working list and words of any size and content.
@@ -101,8 +114,18 @@ pub fn check_plan(file: &[u8], line: &mut [u8], list: &mut [u32], words: &mut [u
         return CheckAnswer::Refused(12);
     }
     let pairs = live + job.worlds as usize;
-    if (list.len() < pairs) | (words.len() < (pairs + 63) / 64) {
+    if list.len() < pairs {
         return CheckAnswer::Refused(13);
     }
-    find(file, job, line, list, words)
+    if words.len() < (pairs + 63) / 64 {
+        return CheckAnswer::Refused(13);
+    }
+    let size = pairs * column_count(job.kinds) as usize;
+    if size <= 256 {
+        return find_small(file, job, line, list, words);
+    }
+    if size <= 8192 {
+        return find_middle(file, job, line, list, words);
+    }
+    find_large(file, job, line, list, words)
 }

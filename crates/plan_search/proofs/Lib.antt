@@ -1,8 +1,7 @@
 pub mod EntryLaws
-pub mod FateReads
-pub mod ListLaws
-pub mod LampTurns
-pub mod StartTurns
-pub mod PairLoops
 pub mod LineLoops
+pub mod ListLaws
 pub mod Naming
+pub mod NewPairs
+pub mod SearchLoops
+pub mod Turns

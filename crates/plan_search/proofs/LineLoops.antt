@@ -1,100 +1,25 @@
--- The loops that follow the parents of a placed pair to its start: the lamps passed are counted, then written from the last to
--- the first.
+-- The loops that go from a place back to place 0: the lamps of its lines are counted, then those of one of them are written, from the
+-- last to the first.
 use mathlib.Core.Path.{_≡_, refl, sym, ap, _∙_}
-use mathlib.Core.Logic.{_≢_}
 use mathlib.Core.List.{List, [], _∷_, _++_}
-use Prim.Native.Nat.{ℕ, suc, _+_, _-_, _≤_, _<_}
+use Prim.Native.Nat.{ℕ, zero, suc, _+_, _-_, _≤_, _<_}
 use native.Mathlib.Numerals.{add-one}
 use native.Mathlib.Omega.{arith}
 use lib.ListN.{length, getD, set, drop, length-append, length-set}
 use lib.Seq.{drop-cons, getD-set-same, drop-set-lt}
+use Rattle.lamp_line.specs.declared.WorldState.{WorldState}
 use Rattle.search_laws.specs.Lists.{_▸_}
+use Rattle.search_laws.specs.Entries.{Entry}
 use Rattle.search_laws.proofs.Graph.{snoc-append}
-use Rattle.search_laws.proofs.Table.{start, path}
+use Rattle.check_laws.specs.Search.{lineStart, lineLamps}
+use Rattle.check_laws.proofs.SearchRest.{first-place-start, first-place-lamps, later-place-start, later-place-lamps}
 use Rattle.plan_search.specs.declared.Placed.{Placed}
-use Rattle.plan_search.specs.ListEntries.{unpacked, entries, Chained}
-use Rattle.plan_search.proofs.EntryLaws.{start-at, lamp-at}
+use Rattle.plan_search.specs.Placing.{unpacked, entries, Chained, Written}
+use Rattle.plan_search.proofs.EntryLaws.{start-before, lamps-before}
 
 -- A line with one lamp more is one longer.
-pub one-longer : (l : List ℕ) (k : ℕ) → length (l ▸ k) ≡ length l + 1
+one-longer : (l : List ℕ) (k : ℕ) → length (l ▸ k) ≡ length l + 1
 one-longer l k = omega (arith, length-append l (k ∷ []))
-
--- ---- counting
-
--- From the placed pair at `from` the parents were followed to the one at `place`.
-pub record Counting (list : List ℕ) (from place lamps : ℕ) : Type 0 where
-  pub placed : place < length list
-  -- The lamps counted and those before the place are all.
-  pub owed : lamps + length (path (entries list) place) ≡ length (path (entries list) from)
-  -- Each lamp counted is a step towards the front of the list.
-  pub few : lamps + place ≤ from
-
--- Before the first step.
-pub counting-starts : (list : List ℕ) (from : ℕ) → from < length list → Counting list from from 0
-counting-starts list from h = record { placed = h; owed = omega arith; few = omega arith }
-
-module _ (list : List ℕ) (chained : Chained list) (place : ℕ) (p : Placed) (is : p ≡ unpacked (getD list place 0)) where
-  kind-is : p .kind ≡ unpacked (getD list place 0) .kind
-  kind-is = ap (λ (q : Placed). q .kind) is
-
-  module _ (placed : place < length list) where
-    -- A start has no lamp before it.
-    at-start : p .kind ≡ 0 → (start (entries list) place ≡ p .parent) × (path (entries list) place ≡ [])
-    at-start e = rw is (start-at list place placed (sym kind-is ∙ e))
-
-    -- The parent of any other pair stands before it, and has one lamp fewer.
-    at-lamp :
-        p .kind ≢ 0 →
-        (p .parent < place) × (start (entries list) place ≡ start (entries list) (p .parent))
-        × (path (entries list) place ≡ path (entries list) (p .parent) ▸ p .kind)
-    at-lamp d =
-        let low : 1 ≤ unpacked (getD list place 0) .kind = omega (arith, kind-is, d) in
-        let before = chained place placed low in
-        let behind = lamp-at list place placed low before in
-        rw is (before, behind .0, behind .1)
-
-  module _ (from lamps : ℕ) (counting : Counting list from place lamps) where
-    -- The start is reached.
-    pub counted : p .kind ≡ 0 → lamps ≡ length (path (entries list) from)
-    counted e =
-        let none : length (path (entries list) place) ≡ 0 = ap length (at-start (counting .placed) e .1) in
-        omega (arith, counting .owed)
-
-    -- One step further, which is a step towards the front.
-    pub counts-on : p .kind ≢ 0 → (p .parent < place) × Counting list from (p .parent) (lamps + 1)
-    counts-on d =
-        let (before, s, l) = at-lamp (counting .placed) d in
-        let longer = ap length l ∙ one-longer (path (entries list) (p .parent)) (p .kind) in (
-          before,
-          record {
-            placed = omega (arith, counting .placed);
-            owed = omega (arith, counting .owed);
-            few = omega (arith, counting .few);
-          },
-        )
-
--- ---- writing
-
--- The line of the placed pair at `from` with a lamp of the kind more is written from its end down to the place `at` of the
--- buffer, where the next lamp goes.
-pub record Writing (list line₀ : List ℕ) (from kind lamps : ℕ) (line : List ℕ) (at place lamp : ℕ) : Type 0 where
-  pub placed : place < length list
-  -- The lamps before the place go to the front of the buffer, which has room for them and the next.
-  pub left : at ≡ length (path (entries list) place)
-  pub room : at < length line
-  pub same-length : length line ≡ length line₀
-  -- The start is the same.
-  pub same-start : start (entries list) place ≡ start (entries list) from
-  -- What is still to be written, before what stands in the buffer, gives the whole.
-  pub owed :
-      (path (entries list) from ▸ kind) ++ drop (lamps + 1) line₀ ≡ (path (entries list) place ▸ lamp) ++ drop (at + 1) line
-
--- Before the first lamp is written.
-pub writing-starts :
-    (list line : List ℕ) (from kind lamps : ℕ) → from < length list → lamps < length line →
-    lamps ≡ length (path (entries list) from) → Writing list line from kind lamps line lamps from kind
-writing-starts list line from kind lamps h l e =
-    record { placed = h; left = e; room = l; same-length = refl; same-start = refl; owed = refl }
 
 -- A lamp that is written stands before what was written.
 stored :
@@ -105,44 +30,160 @@ stored l line at x h =
     (sym (drop-cons (set line at x) at 0 (omega (arith, length-set line at x))
     ∙ rw (add-one at, getD-set-same line at x 0 h, drop-set-lt (suc at) line at x (omega arith))))
 
-module _
-    (list : List ℕ) (chained : Chained list) (place : ℕ) (p : Placed) (is : p ≡ unpacked (getD list place 0))
-    (line₀ : List ℕ) (from kind lamps : ℕ) (line : List ℕ) (at lamp : ℕ)
-    (writing : Writing list line₀ from kind lamps line at place lamp) where
-  -- The start is reached: all is written.
-  pub written-all :
-      p .kind ≡ 0 →
-      (p .parent ≡ start (entries list) from) × (set line at lamp ≡ (path (entries list) from ▸ kind) ++ drop (lamps + 1) line₀)
-  written-all e =
-      let (s, l) = at-start list chained place p is (writing .placed) e in
-      let none : at ≡ 0 = writing .left ∙ ap length l in (
-        sym s ∙ writing .same-start,
-        sym (writing .owed
-            ∙ ap (λ (m : List ℕ). (m ▸ lamp) ++ drop (at + 1) line) l
-            ∙ stored [] line at lamp (writing .room)
-            ∙ ap (λ (i : ℕ). drop i (set line at lamp)) none),
-      )
+-- ---- one place back
 
-  -- The parent's lamp is the next.
+-- The line that is tried at a place but 0 with a label k is the line by which the pair of that place was found, and a lamp of the
+-- kind k.
+module _ (worlds : ℕ) (list : List ℕ) (chained : Chained list) (place : ℕ) (later : 0 < place) (within : place ≤ length list) where
+  abbrev E : List Entry
+  E = entries worlds list
+
+  abbrev before : Placed
+  before = unpacked (getD list (place - 1) 0)
+
+  earlier : before .place ≤ place - 1
+  earlier = chained (place - 1) (omega arith)
+
+  start-back : (k : ℕ) → lineStart E place k ≡ lineStart E (before .place) (before .label)
+  start-back k = later-place-start E place k later ∙ start-before worlds list (place - 1) (omega arith) earlier
+
+  lamps-back : (k : ℕ) → lineLamps E place k ≡ lineLamps E (before .place) (before .label) ▸ k
+  lamps-back k =
+      later-place-lamps E place k later
+      ∙ ap (λ (l : List ℕ). l ▸ k) (lamps-before worlds list (place - 1) (omega arith) earlier)
+
+  longer : (k : ℕ) → length (lineLamps E place k) ≡ length (lineLamps E (before .place) (before .label)) + 1
+  longer k = ap length (lamps-back k) ∙ one-longer (lineLamps E (before .place) (before .label)) k
+
+-- All lines that are tried at a place have as many lamps.
+same-count :
+    (worlds : ℕ) (list : List ℕ) → Chained list → (place : ℕ) → place ≤ length list → (k k′ : ℕ) →
+    length (lineLamps (entries worlds list) place k) ≡ length (lineLamps (entries worlds list) place k′)
+same-count worlds list chained place within k k′ = go place refl
+  where
+    go : (i : ℕ) → place ≡ i → length (lineLamps (entries worlds list) place k) ≡ length (lineLamps (entries worlds list) place k′)
+    go zero e =
+        ap length (first-place-lamps (entries worlds list) place k e ∙ sym (first-place-lamps (entries worlds list) place k′ e))
+    go (suc i) e =
+        let later : 0 < place = omega arith in
+        longer worlds list chained place later within k ∙ sym (longer worlds list chained place later within k′)
+
+-- ---- counting
+
+-- From the place `from` the loop has come back to `place`.
+pub record Counting (list : List ℕ) (from place lamps : ℕ) : Type 0 where
+  pub within : place ≤ length list
+  -- The lamps counted and those of the lines of this place are all.
+  pub owed :
+      (worlds label label′ : ℕ) →
+      lamps + length (lineLamps (entries worlds list) place label) ≡ length (lineLamps (entries worlds list) from label′)
+  -- Each lamp counted is a step back.
+  pub few : lamps + place ≤ from
+
+module _ {list : List ℕ} (chained : Chained list) where
+  pub counting-starts : {from : ℕ} → from ≤ length list → Counting list from from 0
+  counting-starts {from} h =
+      record { within = h; owed = λ worlds label label′. omega (arith, same-count worlds list chained from h label label′); few = omega arith }
+
+  module _ {from place lamps : ℕ} (counting : Counting list from place lamps) where
+    -- One place back.
+    pub counts-on :
+        0 < place → (p : Placed) → p ≡ unpacked (getD list (place - 1) 0) →
+        (p .place < place) × Counting list from (p .place) (lamps + 1)
+    counts-on later p is =
+        rw is (
+          omega (arith, earlier 0 list chained place later (counting .within)),
+          record {
+            within = omega (arith, earlier 0 list chained place later (counting .within), counting .within);
+            owed = λ worlds label label′. omega (
+              arith,
+              counting .owed worlds label label′,
+              longer worlds list chained place later (counting .within) label,
+              same-count worlds list chained (unpacked (getD list (place - 1) 0) .place)
+                  (omega (arith, earlier 0 list chained place later (counting .within), counting .within))
+                  label (unpacked (getD list (place - 1) 0) .label),
+            );
+            few = omega (arith, counting .few, earlier 0 list chained place later (counting .within));
+          },
+        )
+
+    -- At place 0 all are counted.
+    pub counted : ¬ (0 < place) → (worlds label : ℕ) → lamps ≡ length (lineLamps (entries worlds list) from label)
+    counted last worlds label =
+        let none : length (lineLamps (entries worlds list) place 0) ≡ 0 =
+        ap length (first-place-lamps (entries worlds list) place 0 (omega arith)) in
+        omega (arith, counting .owed worlds 0 label)
+
+-- ---- writing
+
+-- The line that was tried at `from` with `label` is written from its end down to the place `at` of the buffer; what is left of it is
+-- the line that was tried at `place` with `lamp`.
+pub record Writing (list line₀ : List ℕ) (from label lamps : ℕ) (line : List ℕ) (place lamp at : ℕ) : Type 0 where
+  pub within : place ≤ length list
+  pub left : (worlds : ℕ) → at ≡ length (lineLamps (entries worlds list) place lamp)
+  pub room : at ≤ length line
+  pub same-length : length line ≡ length line₀
+  pub same-start : (worlds : ℕ) → lineStart (entries worlds list) place lamp ≡ lineStart (entries worlds list) from label
+  -- What is still to be written, before what stands in the buffer, gives the whole.
+  pub owed :
+      (worlds : ℕ) →
+      lineLamps (entries worlds list) from label ++ drop lamps line₀ ≡ lineLamps (entries worlds list) place lamp ++ drop at line
+
+-- Before the first lamp is written.
+pub writing-starts :
+    {list line : List ℕ} {from label lamps : ℕ} → from ≤ length list → lamps ≤ length line →
+    ((worlds label : ℕ) → lamps ≡ length (lineLamps (entries worlds list) from label)) →
+    Writing list line from label lamps line from label lamps
+writing-starts {list} {line} {from} {label} {lamps} h l e =
+    record {
+      within = h;
+      left = λ worlds. e worlds label;
+      room = l;
+      same-length = refl;
+      same-start = λ worlds. refl;
+      owed = λ worlds. refl;
+    }
+
+module _
+    {list line₀ line : List ℕ} {from label lamps place lamp at : ℕ} (chained : Chained list)
+    (writing : Writing list line₀ from label lamps line place lamp at) where
+  -- At a place but 0 there is a lamp to be written.
+  pub some-left : 0 < place → 0 < at
+  some-left later = omega (arith, writing .left 0, longer 0 list chained place later (writing .within) lamp)
+
+  -- It is written, and the line by which the pair of this place was found is left.
   pub writes-on :
-      p .kind ≢ 0 →
-      (1 ≤ at) × (p .parent < place) × Writing list line₀ from kind lamps (set line at lamp) (at - 1) (p .parent) (p .kind)
-  writes-on d =
-      let (before, s, l) = at-lamp list chained place p is (writing .placed) d in
-      let longer = ap length l ∙ one-longer (path (entries list) (p .parent)) (p .kind) in
-      let back : at - 1 + 1 ≡ at = omega (arith, writing .left) in (
-        omega (arith, writing .left),
-        before,
+      0 < place → (p : Placed) → p ≡ unpacked (getD list (place - 1) 0) →
+      (p .place < place) × Writing list line₀ from label lamps (set line (at - 1) lamp) (p .place) (p .label) (at - 1)
+  writes-on later p is =
+      let few = earlier 0 list chained place later (writing .within) in
+      let back : at - 1 + 1 ≡ at = omega (arith, some-left later) in
+      rw is (
+        omega arith,
         record {
-          placed = omega (arith, writing .placed);
-          left = omega (arith, writing .left);
-          room = omega (arith, writing .room, length-set line at lamp);
-          same-length = length-set line at lamp ∙ writing .same-length;
-          same-start = sym s ∙ writing .same-start;
-          owed =
-              writing .owed
-              ∙ ap (λ (m : List ℕ). (m ▸ lamp) ++ drop (at + 1) line) l
-              ∙ stored (path (entries list) (p .parent) ▸ p .kind) line at lamp (writing .room)
-              ∙ ap (λ (i : ℕ). (path (entries list) (p .parent) ▸ p .kind) ++ drop i (set line at lamp)) (sym back);
+          within = omega (arith, writing .within);
+          left = λ worlds. omega (arith, writing .left worlds, longer worlds list chained place later (writing .within) lamp);
+          room = omega (arith, writing .room, length-set line (at - 1) lamp);
+          same-length = length-set line (at - 1) lamp ∙ writing .same-length;
+          same-start = λ worlds. sym (start-back worlds list chained place later (writing .within) lamp) ∙ writing .same-start worlds;
+          owed = λ worlds.
+              writing .owed worlds
+              ∙ ap (λ (m : List ℕ). m ++ drop at line) (lamps-back worlds list chained place later (writing .within) lamp)
+              ∙ ap (λ (i : ℕ). (lineLamps (entries worlds list) (unpacked (getD list (place - 1) 0) .place)
+              (unpacked (getD list (place - 1) 0) .label) ▸ lamp) ++ drop i line) (sym back)
+              ∙ stored (lineLamps (entries worlds list) (unpacked (getD list (place - 1) 0) .place)
+              (unpacked (getD list (place - 1) 0) .label)) line (at - 1) lamp
+              (omega (arith, writing .room, some-left later));
         },
       )
+
+  -- At place 0 the label is the start, and the whole line is written.
+  pub all-written : ¬ (0 < place) → (r : WorldState) → r .0 ≡ lamp → (worlds : ℕ) → Written (entries worlds list) from label lamps line₀ r line
+  all-written last r is worlds =
+      let none : place ≡ 0 = omega arith in
+      let empty = first-place-lamps (entries worlds list) place lamp none in
+      let at-front : at ≡ 0 = writing .left worlds ∙ ap length empty in
+      record {
+        start-is = is ∙ sym (first-place-start (entries worlds list) place lamp none) ∙ writing .same-start worlds;
+        line-is = sym (writing .owed worlds ∙ ap (λ (m : List ℕ). m ++ drop at line) empty ∙ ap (λ (i : ℕ). drop i line) at-front);
+      }

@@ -1,114 +1,71 @@
--- The failing line that is written: it is as long as the counterexample may be, and with it the answer names the counterexample.
+-- The failing line that is written: it fits in the buffer, and with it the answer is that of the search.
 use mathlib.Core.Path.{_≡_, refl, sym, ap, ap₂, subst, _∙_}
-use mathlib.Core.List.{List, []}
-use Prim.Native.Nat.{ℕ, _+_, _*_, _≤_, _<_}
+use mathlib.Core.List.{List}
+use Prim.Native.Nat.{ℕ, _+_, _*_, _≤_}
 use native.Mathlib.Omega.{arith}
 use lib.ListN.{length, take, drop}
 use lib.Seq.{take-at, drop-at, length-take-le}
 use Rattle.lamp_line.specs.declared.FailureKind.{FailureKind}
 use Rattle.lamp_line.specs.declared.WorldState.{WorldState}
 use Rattle.lamp_line.specs.Tables.{Tables, WellFormed, worldState}
-use Rattle.lamp_line.specs.Check.{Counterexample, Accepts}
+use Rattle.lamp_line.specs.Check.{failed}
 use Rattle.lamp_line.proofs.Products.{product-le}
-use Rattle.job_layout.specs.declared.Job.{Job}
-use Rattle.job_layout.specs.JobTables.{tablesOf}
-use Rattle.job_file.specs.Reading.{Opened}
-use Rattle.job_tables.proofs.Ranges.{states-are, worlds-are}
 use Rattle.run_laws.specs.Lines.{lineOf}
-use Rattle.search_laws.specs.Lists.{_▸_}
-use Rattle.search_laws.proofs.Table.{start, path}
+use Rattle.check_laws.specs.Search.{lineLamps}
+use Rattle.check_laws.proofs.VerdictRight.{failing-short}
 use Rattle.plan_search.specs.declared.Halted.{Halted}
-use Rattle.plan_search.specs.declared.Halted.the-variants.{Through, AtStart, AtLamp, Long}
-use Rattle.plan_search.specs.ListEntries.{entries}
-use Rattle.plan_search.specs.Answer.{Searched, LampFails, Names, Written}
-use Rattle.plan_search.proofs.LineLoops.{one-longer}
+use Rattle.plan_search.specs.declared.Halted.the-variants.{Through, AtLine}
+use Rattle.plan_search.specs.declared.Found.the-variants.{Accepted, Failed}
+use Rattle.plan_search.specs.Placing.{Chained, Written}
+use Rattle.plan_search.specs.Searching.{table, Names, Searched, Finds}
 
--- ---- where the search ended
+-- An end that is known is answered so.
+pub searched-as : {t : Tables} {r r′ : Halted} {list : List ℕ} → Searched t r list → r ≡ r′ → Searched t r′ list
+searched-as {t} {r} {r′} {list} searched e = subst (λ (u : Halted). Searched t u list) e searched
 
-module _ (t : Tables) (fates : List ℕ) (r : Halted) (list : List ℕ) (searched : Searched t fates r list) where
-  -- No line fails.
-  pub halted-through : (count : ℕ) → r ≡ Through count → Accepts t count
-  halted-through count e = subst (λ (u : Halted). Searched t fates u list) e searched
+-- The words of which the line is read.
+pub names-of : {t : Tables} {kind : FailureKind} {n place label : ℕ} {list : List ℕ} → Searched t (AtLine kind n place label) list →
+    Names list n place
+names-of searched = searched .left
 
-  -- The empty line fails from a start.
-  pub halted-start : (kind : FailureKind) (w : WorldState) → r ≡ AtStart kind w → Counterexample t kind w (lineOf 0 [])
-  halted-start kind w e = subst (λ (u : Halted). Searched t fates u list) e searched
+pub taken-size : {list : List ℕ} {n place : ℕ} → Names list n place → length (take n list) ≡ n
+taken-size {list} {n} names = length-take-le n list (names .room)
 
-  -- The line of a placed pair with one lamp more fails.
-  pub halted-lamp : (kind : FailureKind) (n h k : ℕ) → r ≡ AtLamp kind n h k → LampFails t list n h k kind
-  halted-lamp kind n h k e = subst (λ (u : Halted). Searched t fates u list) e searched
+pub readable :
+    {list : List ℕ} {n place : ℕ} → Names list n place →
+    Chained (take n list) × (place ≤ length (take n list)) × (length (take n list) ≤ 4160)
+readable names = (names .chained, omega (arith, taken-size names, names .within), omega (arith, taken-size names, names .few))
 
-  -- Walking took too long.
-  pub halted-long : r ≡ Long → length fates ≡ 0
-  halted-long e = subst (λ (u : Halted). Searched t fates u list) e searched
+-- No line fails: nothing is written.
+pub finds-none : {t : Tables} {count : ℕ} {list line : List ℕ} → Searched t (Through count) list → Finds t (Accepted count) line line
+finds-none searched = record { verdict-is = searched .verdict-is; within = omega arith; others = refl }
 
--- ---- the line
-
--- The empty line fails: nothing is written.
-pub names-empty :
-    (t : Tables) (kind : FailureKind) (w : WorldState) (line : List ℕ) → Counterexample t kind w (lineOf 0 []) →
-    Names t kind w 0 line line
-names-empty t kind w line fails = record { counterexample = fails; within = omega arith; rest = refl }
-
-module _ (t : Tables) (list : List ℕ) (n h k : ℕ) (kind : FailureKind) (fails : LampFails t list n h k kind) where
-  -- The pair is one of the first n words of the list.
-  pub taken-size : length (take n list) ≡ n
-  taken-size = length-take-le n list (fails .within)
-
-  -- So it stands there.
-  pub in-taken : h < length (take n list)
-  in-taken = omega (arith, taken-size, fails .placed)
-
-  -- The start's number is a byte.
-  pub start-small : WellFormed t → start (entries (take n list)) h < 256
-  start-small wf =
-      omega (
-        arith,
-        wf .start-range (worldState (start (entries (take n list)) h)) (fails .counterexample .fails .marked),
-        wf .worlds-range .1,
-      )
-
-  -- There are at most S·W lamps before the last.
-  pub lamps-fit : length (path (entries (take n list)) h) ≤ t .states * t .worlds
-  lamps-fit = omega (arith, fails .counterexample .short, one-longer (path (entries (take n list)) h) k)
+module _
+    {t : Tables} {kind : FailureKind} {n place label : ℕ} {list : List ℕ} (wf : WellFormed t)
+    (searched : Searched t (AtLine kind n place label) list) {lamps : ℕ}
+    (e : lamps ≡ length (lineLamps (table t list n) place label)) where
+  -- It has at most S·W + 1 lamps.
+  pub line-fits : lamps ≤ t .states * t .worlds + 1
+  line-fits = omega (arith, failing-short t wf (searched .verdict-is))
 
   -- So they are few.
-  pub lamps-few : WellFormed t → length (path (entries (take n list)) h) ≤ 4096
-  lamps-few wf = omega (arith, lamps-fit, product-le 64 64 (t .states) (t .worlds) (wf .states-range) (wf .worlds-range .1))
+  pub lamps-few : lamps ≤ 4097
+  lamps-few = omega (arith, line-fits, product-le 64 64 (t .states) (t .worlds) (wf .states-range) (wf .worlds-range .1))
 
-  -- The line that is written is the counterexample's.
-  pub names-line :
-      (lamps : ℕ) (line : List ℕ) (r : WorldState) (line′ : List ℕ) → lamps ≡ length (path (entries (take n list)) h) →
-      lamps < length line → length line′ ≡ length line → Written (take n list) h k lamps line r line′ →
-      Names t kind r (lamps + 1) line line′
-  names-line lamps line r line′ e room same written =
+  -- With the line that is written the answer is the definition's.
+  pub finds-line :
+      {line line′ : List ℕ} {r : WorldState} → lamps ≤ length line → length line′ ≡ length line →
+      Written (table t list n) place label lamps line r line′ → Finds t (Failed kind r lamps) line line′
+  finds-line {line} {line′} {r} room same written =
       record {
-        counterexample =
-            subst (λ (w : WorldState). Counterexample t kind w (lineOf 0 (take (lamps + 1) line′)))
-            (ap worldState (sym (written .start-is)))
-            (subst (λ (l : List ℕ). Counterexample t kind (worldState (start (entries (take n list)) h)) (lineOf 0 l))
-            (sym front) (fails .counterexample));
+        verdict-is = searched .verdict-is
+            ∙ ap₂ (λ (w : WorldState) (l : List ℕ). failed kind w (lineOf 0 l)) (ap worldState (sym (written .start-is))) (sym front);
         within = omega arith;
-        rest = ap (drop (lamps + 1)) (written .line-is) ∙ drop-at whole (drop (lamps + 1) line) (lamps + 1) size;
+        others = ap (drop lamps) (written .line-is) ∙ drop-at whole (drop lamps line) lamps (sym e);
       }
     where
       whole : List ℕ
-      whole = path (entries (take n list)) h ▸ k
+      whole = lineLamps (table t list n) place label
 
-      size : length whole ≡ lamps + 1
-      size = one-longer (path (entries (take n list)) h) k ∙ ap (λ (m : ℕ). m + 1) (sym e)
-
-      front : take (lamps + 1) line′ ≡ whole
-      front = ap (take (lamps + 1)) (written .line-is) ∙ take-at whole (drop (lamps + 1) line) (lamps + 1) size
-
--- The buffer has room for the line.
-pub line-fits :
-    (s : List ℕ) (j : Job) → Opened s j → (list : List ℕ) (n h k : ℕ) (kind : FailureKind) →
-    LampFails (tablesOf s) list n h k kind →
-    (lamps size : ℕ) → lamps ≡ length (path (entries (take n list)) h) → j .states * j .worlds + 1 ≤ size → lamps < size
-line-fits s j opened list n h k kind fails lamps size e room =
-    omega (
-      arith,
-      lamps-fit (tablesOf s) list n h k kind fails,
-      ap₂ (λ (q w : ℕ). q * w) (states-are s j opened) (worlds-are s j opened),
-    )
+      front : take lamps line′ ≡ whole
+      front = ap (take lamps) (written .line-is) ∙ take-at whole (drop lamps line) lamps (sym e)

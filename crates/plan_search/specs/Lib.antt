@@ -1,4 +1,2 @@
-pub mod ListEntries
-pub mod FateReading
+pub mod Placing
 pub mod Searching
-pub mod Answer

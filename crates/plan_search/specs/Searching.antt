@@ -1,125 +1,157 @@
--- What holds of the list and the bits while the search goes on, and what its turns make of them.
+-- What holds of list, bits and memory while the search goes on, and what its functions make of them.
 use mathlib.Core.Path.{_≡_}
-use mathlib.Core.Logic.{_≢_, _⊎_}
-use mathlib.Core.Bool.{true, false}
-use mathlib.Core.List.{List, []}
-use Prim.Native.Nat.{ℕ, _+_, _*_, _≤_, _<_}
-use lib.ListN.{length, getD, take, set}
-use Rattle.lamp_line.specs.declared.FailureKind.{FailureKind}
-use Rattle.lamp_line.specs.Tables.{Tables, worldState}
-use Rattle.lamp_line.specs.Check.{Counterexample}
+use mathlib.Core.List.{List}
+use mathlib.Core.Bool.{false}
+use Prim.Native.Nat.{ℕ, suc, _+_, _*_, _≤_, _<_}
+use lib.ListN.{length, getD, take, drop}
+use Rattle.lamp_line.specs.Tables.{Tables, worldState, columns}
+use Rattle.lamp_line.specs.Run.{Pair, pair}
+use Rattle.lamp_line.specs.Check.{Verdict, accepted, failed}
 use Rattle.job_layout.specs.declared.Job.{Job}
-use Rattle.job_layout.specs.JobTables.{tablesOf}
+use Rattle.job_layout.specs.JobTables.{tablesBy}
 use Rattle.job_file.specs.Reading.{Opened}
-use Rattle.lamp_fates.specs.FateTable.{HoldsFates}
-use Rattle.pair_bits.specs.Bits.{bitAt, countTo, OnlySet}
 use Rattle.run_laws.specs.Lines.{lineOf}
-use Rattle.search_laws.specs.Lists.{_▸_}
-use Rattle.search_laws.proofs.Table.{node, start, path}
-use Rattle.search_laws.proofs.Turns.{At}
-use Rattle.search_laws.proofs.Begin.{Begun}
-use Rattle.check_laws.specs.Fates.{fails, fate}
-use Rattle.check_laws.proofs.TableGraph.{graph}
-use Rattle.plan_search.specs.declared.Placed.{Placed}
-use Rattle.plan_search.specs.declared.Starts.{Starts}
-use Rattle.plan_search.specs.declared.Starts.the-variants as starts
+use Rattle.run_laws.specs.Pairs.{InRange, pairNumber}
+use Rattle.pair_bits.specs.Bits.{bitAt, countTo}
+use Rattle.lamp_fates.specs.Memory.{pairs, Memory}
+use Rattle.search_laws.specs.Entries.{Entry, grown}
+use Rattle.check_laws.specs.Fates.{fate}
+use Rattle.check_laws.specs.Search as search
+use Rattle.check_laws.specs.Search.{goes-on, met, failing, lineStart, lineLamps, lineEntry, firstLabel}
+use Rattle.check_laws.specs.Search.{visit, atLamp, tried, labels, verdictOf}
+use Rattle.plan_search.specs.declared.Stretch.{Stretch}
+use Rattle.plan_search.specs.declared.Stretch.the-variants.{Nowhere, From}
+use Rattle.plan_search.specs.declared.Tried.{Tried}
+use Rattle.plan_search.specs.declared.Tried.the-variants as tried-as
 use Rattle.plan_search.specs.declared.Turn.{Turn}
 use Rattle.plan_search.specs.declared.Turn.the-variants.{Fails, Holds}
-use Rattle.plan_search.specs.ListEntries.{packed, unpacked, entries}
+use Rattle.plan_search.specs.declared.Halted.{Halted}
+use Rattle.plan_search.specs.declared.Halted.the-variants.{Through, AtLine}
+use Rattle.plan_search.specs.declared.Found.{Found}
+use Rattle.plan_search.specs.declared.Found.the-variants.{Accepted, Failed}
+use Rattle.plan_search.specs.Placing.{unpacked, pairOf, entries, Chained}
 
--- How many pairs the tables have.
-abbrev pub pairs : Tables → ℕ
-pairs t = (t .states + 1) * t .worlds
-
--- The table of fates is empty, and each fate is learnt by a walk; or it holds the fates of all pairs.
-abbrev pub Learnable : Tables → List ℕ → Type 0
-Learnable t fates = (length fates ≡ 0) ⊎ (HoldsFates t fates × (length fates ≡ 66560))
-
--- The file is not refused, and the fates of its pairs can be learnt.
-pub record Ready (s : List ℕ) (j : Job) (fates : List ℕ) : Type 0 where
-  pub opened : Opened s j
-  pub table : Learnable (tablesOf s) fates
+-- The entries of the first n words of the list.
+abbrev pub table : Tables → List ℕ → ℕ → List Entry
+table t list n = entries (t .worlds) (take n list)
 
 -- The first n words of the list and the bits belong together.
 pub record Listed (t : Tables) (list words : List ℕ) (n : ℕ) : Type 0 where
-  -- A pair whose bit is set is in the list, and one whose bit is not set is not.
-  pub met : (y : ℕ) → y < pairs t → bitAt words y ≡ true → (i : ℕ) × (i < n) × (node (entries (take n list)) i ≡ y)
-  pub new : (y : ℕ) → y < pairs t → bitAt words y ≡ false → (i : ℕ) → i < n → node (entries (take n list)) i ≢ y
+  -- A bit is set where its pair is in the list.
+  pub bits : (y : ℕ) → y < pairs t → bitAt words y ≡ met (table t list n) y
   -- There are as many bits as words.
   pub counted : countTo words (pairs t) ≡ n
-  -- A pair that is not a start stands behind its parent.
-  pub behind : (i : ℕ) → i < n → 1 ≤ unpacked (getD list i 0) .kind → unpacked (getD list i 0) .parent < i
+  -- The pairs are those of the tables, each found at place 0 or at the place of a pair before it.
+  pub ranges : (i : ℕ) → i < n → InRange t (pairOf (unpacked (getD list i 0)))
+  pub chained : (i : ℕ) → i < n → unpacked (getD list i 0) .place ≤ i
   -- All pairs have room.
   pub list-room : pairs t ≤ length list
   pub bits-room : pairs t ≤ length words * 64
 
--- The starts below s are placed.
-pub record Starting (t : Tables) (list words : List ℕ) (n s : ℕ) : Type 0 where
-  pub listed : Listed t list words n
-  pub begun : Begun (graph t) (entries (take n list)) s
+-- The file is not refused, and the memory is one of its tables.
+pub record Ready (s : List ℕ) (j : Job) (memory : List ℕ) : Type 0 where
+  pub opened : Opened s j
+  pub remembers : Memory (tablesBy s j) memory
 
--- The placed pairs before h were tried with all kinds, and h with the kinds below k.
-pub record Searching (t : Tables) (list words : List ℕ) (n h k : ℕ) : Type 0 where
-  pub listed : Listed t list words n
-  pub at : At (graph t) (entries (take n list)) h k
-  pub low : 1 ≤ k
+-- There is a place with this label.
+pub record Label (t : Tables) (n place label : ℕ) : Type 0 where
+  pub within : place ≤ n
+  pub low : firstLabel place ≤ label
+  pub high : label < firstLabel place + labels t place
 
--- ---- what a turn asks
+-- ---- one label at one place
 
--- A pair of the tables can be visited.
-pub record CanVisit (t : Tables) (list words : List ℕ) (n : ℕ) (p : Placed) : Type 0 where
-  pub listed : Listed t list words n
-  pub pair-range : p .pair < pairs t
-  pub parent-range : p .parent < 8192
-  pub kind-range : p .kind ≤ 15
+-- Where the line that is tried goes on with the pair y: at its last lamp, which is the entry h's next, or at its end.
+pub data Going (t : Tables) (E : List Entry) (place label y column : ℕ) : Type 0 where
+  at-lamp : (h : ℕ) → place ≡ suc h → 1 ≤ column → tried t E place label ≡ atLamp t E h label (fate t y column) →
+      Going t E place label y column
+  at-end : column ≡ 0 → tried t E place label ≡ visit t E (lineEntry E place label y) → Going t E place label y column
 
--- The placed pair h can be tried with the kind k.
-pub record CanTurn (t : Tables) (list words : List ℕ) (n h k : ℕ) : Type 0 where
-  pub searching : Searching t list words n h k
-  pub high : k ≤ t .kinds
+-- The pair with which it does.
+pub record Goes (t : Tables) (E : List Entry) (place label : ℕ) (p : Pair) (column : ℕ) : Type 0 where
+  pub range : InRange t p
+  pub column-range : column < columns (t .kinds)
+  pub going : Going t E place label (pairNumber (t .worlds) p) column
 
--- ---- what a turn comes to
+abbrev BeginsSo : Tables → List Entry → ℕ → ℕ → Stretch → Type 0
+BeginsSo t E place label Nowhere = tried t E place label ≡ goes-on E
+BeginsSo t E place label (From state world column) = Goes t E place label (pair state world) column
 
--- The pair was met before, and nothing is changed.
-pub record WasMet (list words : List ℕ) (n : ℕ) (p : Placed) (m : ℕ) (list′ words′ : List ℕ) : Type 0 where
-  pub marked : bitAt words (p .pair) ≡ true
-  pub count : m ≡ n
-  pub same-list : list′ ≡ list
-  pub same-words : words′ ≡ words
+pub record Begins (t : Tables) (E : List Entry) (place label : ℕ) (r : Stretch) : Type 0 where
+  pub so : BeginsSo t E place label r
 
--- The pair is new and does not fail at the line's end. It is placed, and its bit is set.
-pub record IsPlaced (t : Tables) (list words : List ℕ) (n : ℕ) (p : Placed) (m : ℕ) (list′ words′ : List ℕ) : Type 0 where
-  pub unmarked : bitAt words (p .pair) ≡ false
-  pub good : (kind : FailureKind) → fate t (p .pair) 0 ≢ fails kind
-  pub count : m ≡ n + 1
-  pub stored : list′ ≡ set list n (packed p)
-  pub only : OnlySet words words′ (p .pair)
+-- The line comes to its end with a pair that was not met, and does not fail there.
+pub record Comes (t : Tables) (E : List Entry) (place label : ℕ) (words : List ℕ) (p : Pair) : Type 0 where
+  pub range : InRange t p
+  pub unmarked : bitAt words (pairNumber (t .worlds) p) ≡ false
+  pub turn-is : tried t E place label ≡ goes-on (grown E (lineEntry E place label (pairNumber (t .worlds) p)))
 
--- The pair is new and fails at the line's end.
-pub record FailsThere (t : Tables) (words : List ℕ) (p : Placed) (kind : FailureKind) : Type 0 where
-  pub unmarked : bitAt words (p .pair) ≡ false
-  pub fails-so : fate t (p .pair) 0 ≡ fails kind
+-- What trying the line comes to.
+abbrev TriesSo : Tables → List Entry → ℕ → ℕ → List ℕ → Tried → Type 0
+TriesSo t E place label words (tried-as.Fails kind) =
+    tried t E place label ≡ failing kind (lineStart E place label) (lineLamps E place label) 0
+TriesSo t E place label words tried-as.Nothing = tried t E place label ≡ goes-on E
+TriesSo t E place label words (tried-as.New state world) = Comes t E place label words (pair state world)
 
--- What visiting a pair comes to. Of the steps that are left for walking nothing is said, here and below: no answer hangs on them.
-abbrev pub Came : Tables → List ℕ → List ℕ → ℕ → Placed → Turn → List ℕ → List ℕ → Type 0
-Came t list words n p (Fails kind) list′ words′ = FailsThere t words p kind × (list′ ≡ list)
-Came t list words n p (Holds m left) list′ words′ =
-    WasMet list words n p m list′ words′ ⊎ IsPlaced t list words n p m list′ words′
+pub record Tries (t : Tables) (E : List Entry) (place label : ℕ) (words : List ℕ) (r : Tried) (memory′ : List ℕ) : Type 0 where
+  pub so : TriesSo t E place label words r
+  pub remembers : Memory t memory′
 
--- What a start comes to: the empty line fails from it, or the next start is taken.
-abbrev pub AfterStart : Tables → ℕ → Turn → List ℕ → List ℕ → Type 0
-AfterStart t s (Fails kind) list′ words′ = Counterexample t kind (worldState s) (lineOf 0 [])
-AfterStart t s (Holds m left) list′ words′ = Starting t list′ words′ m (s + 1)
+-- What a turn comes to: its line fails, or the list holds so many pairs.
+abbrev pub turnIs : Tables → Turn → List Entry → ℕ → ℕ → List ℕ → search.Turn
+turnIs t (Fails kind) E place label list′ = failing kind (lineStart E place label) (lineLamps E place label) 0
+turnIs t (Holds m) E place label list′ = goes-on (table t list′ m)
 
--- What all starts come to: the empty line fails from one, or the first placed pair is tried with the first kind.
-abbrev pub AfterStarts : Tables → Starts → List ℕ → List ℕ → Type 0
-AfterStarts t (starts.Fails kind start) list′ words′ = Counterexample t kind start (lineOf 0 [])
-AfterStarts t (starts.Holds m left) list′ words′ = Searching t list′ words′ m 0 1
+-- What a turn leaves: the list as it was, or one that holds these pairs.
+abbrev pub Left : Tables → Turn → ℕ → List ℕ → List ℕ → List ℕ → Type 0
+Left t (Fails kind) n list list′ words′ = list′ ≡ list
+Left t (Holds m) n list list′ words′ = (n ≤ m) × Listed t list′ words′ m
 
--- What a turn with the placed pair h and the kind k comes to: the line that is tried is the counterexample, or the next kind is
--- tried with the list as it is now.
-abbrev pub After : Tables → List ℕ → ℕ → ℕ → ℕ → Turn → List ℕ → List ℕ → Type 0
-After t list n h k (Fails kind) list′ words′ =
-    Counterexample t kind (worldState (start (entries (take n list)) h)) (lineOf 0 (path (entries (take n list)) h ▸ k))
-    × (list′ ≡ list)
-After t list n h k (Holds m left) list′ words′ = Searching t list′ words′ m h (k + 1)
+pub record Turned (t : Tables) (list : List ℕ) (n place label : ℕ) (r : Turn) (list′ words′ : List ℕ) : Type 0 where
+  pub turn-is : tried t (table t list n) place label ≡ turnIs t r (table t list n) place label list′
+  pub left : Left t r n list list′ words′
+
+-- Where the search ends: no line fails, or the line that was tried at a place with a label does.
+abbrev pub haltIs : Tables → Halted → List ℕ → Verdict
+haltIs t (Through count) list = accepted count
+haltIs t (AtLine kind n place label) list =
+    failed kind (worldState (lineStart (table t list n) place label)) (lineOf 0 (lineLamps (table t list n) place label))
+
+-- Of a list of which a line is to be read: it holds these pairs, and the line's place.
+pub record Names (list : List ℕ) (n place : ℕ) : Type 0 where
+  pub within : place ≤ n
+  pub few : n ≤ 4160
+  pub room : n ≤ length list
+  pub chained : Chained (take n list)
+
+abbrev pub HaltLeft : Halted → List ℕ → Type 0
+HaltLeft (Through count) list = Unit {0}
+HaltLeft (AtLine kind n place label) list = Names list n place
+
+pub record Searched (t : Tables) (r : Halted) (list : List ℕ) : Type 0 where
+  pub verdict-is : verdictOf t ≡ haltIs t r list
+  pub left : HaltLeft r list
+
+-- ---- the whole search
+
+-- Refusals 12 and 13 do not apply.
+pub record Room (t : Tables) (line list words : ℕ) : Type 0 where
+  pub line-room : t .states * t .worlds + 1 ≤ line
+  pub list-room : pairs t ≤ list
+  pub words-room : pairs t ≤ words * 64
+
+-- What was found, with the failing line at the front of the line buffer.
+abbrev pub verdictIn : Found → List ℕ → Verdict
+verdictIn (Accepted count) line = accepted count
+verdictIn (Failed kind start lamps) line = failed kind start (lineOf 0 (take lamps line))
+
+-- How many bytes of the line buffer are written.
+abbrev pub writtenBy : Found → ℕ
+writtenBy (Accepted count) = 0
+writtenBy (Failed kind start lamps) = lamps
+
+-- The answer is the definition's, and the bytes of the line buffer after the line are as before.
+pub record Finds (t : Tables) (r : Found) (line line′ : List ℕ) : Type 0 where
+  pub verdict-is : verdictOf t ≡ verdictIn r line′
+  pub within : writtenBy r ≤ length line′
+  pub others : drop (writtenBy r) line′ ≡ drop (writtenBy r) line

@@ -1,73 +1,71 @@
-// The search of the check (document 01, "The check"): the pairs reached are placed in a working list, each with the place of its
-// parent and the kind that led to it, until a line fails or no pair is left. What a pair comes to at a column is learnt by a walk
-// at that moment, or read from a table of the fates of all pairs, if the caller hands a filled one. A search that walks is given up
-// once its walks took more steps than its caller allows.
-ghost use Prim.Native.Nat.{_+_, _*_, _≤_, _<_};
+// The search of the check (document 01, "The check"). It goes through places: at place 0 the starts are tried, with the empty line;
+// at each further place a pair of the working list, whose line is tried with one lamp more, of each kind. A pair that is new is put
+// in the list, unless the line that ends with it fails. The search ends at the first line that fails, or where no place is left.
+ghost use mathlib.Core.Path.{_≡_};
+ghost use mathlib.Core.Bool.{_&&_};
+ghost use mathlib.Core.List.{List};
+ghost use Prim.Native.Nat.{ℕ, _+_, _*_, _≤_, _<_};
+ghost use lib.Dec.{eqb};
 ghost use lib.ListN.{length};
-ghost use Rattle.job_layout.specs.JobTables.{tablesOf};
-ghost use Rattle.plan_search.specs.Searching.{Ready, Listed, Starting, CanVisit, CanTurn};
-ghost use Rattle.plan_search.specs.Searching.{Came, After, AfterStart, AfterStarts};
-ghost use Rattle.plan_search.specs.Answer.{CanSearch, Searched, Seeks};
-use crate::fates::fate_at;
-use crate::fates::pair_number;
-use crate::line::lamps_before;
+ghost use Rattle.job_layout.specs.JobTables.{tablesBy};
+ghost use Rattle.job_file.specs.Reading.{Opened};
+ghost use Rattle.lamp_fates.specs.Memory.{pairs, Memory};
+ghost use Rattle.pair_bits.specs.Bits.{bitAt};
+ghost use Rattle.check_laws.specs.Search.{firstLabel, labels};
+ghost use Rattle.plan_search.specs.Searching.{table, Listed, Ready, Label, Begins, Tries, Turned, Searched, Room, Finds};
+use crate::line::lamps_at;
 use crate::line::write_line;
 use crate::list::pack;
 use crate::list::unpack;
 use job_layout::Job;
 use job_tables::is_start;
+use lamp_fates::Fate;
+use lamp_fates::fate_at;
+use lamp_fates::pair_number;
 use lamp_line::FailureKind;
+use lamp_line::ProgramState;
 use lamp_line::WorldState;
 use pair_bits::clear_bits;
 use pair_bits::count_bits;
 use pair_bits::is_set;
 use pair_bits::set_bit;
 
-mod fates;
 mod line;
 mod list;
 
-// A pair in the working list: its number, the place of its parent and the kind of the lamp passed from there. For a start the
-// kind is 0, and the parent is the start's world state.
+// A pair in the working list, with the place and the label by which it was found. The pair at index i has place i + 1. At place 0 the
+// labels are the starts, at the others the kinds of lamps.
 pub struct Placed {
-    pub pair: usize,
-    pub parent: usize,
-    pub kind: u8,
+    pub state: ProgramState,
+    pub world: WorldState,
+    pub place: usize,
+    pub label: u8,
 }
 
-// What a pair comes to at a column: the run ends with the goal true, fails, or arrives at the next lamp with a pair.
-pub enum Fate {
-    Succeeds,
+// Where the last stretch of a line begins: with a pair at a column; nowhere, if there is no such line.
+pub enum Stretch {
+    Nowhere,
+    From(ProgramState, WorldState, u8),
+}
+
+// What comes of a line: it fails; nothing is new; or it comes to its end, and does not fail there, with a pair that is new.
+pub enum Tried {
     Fails(FailureKind),
-    Arrives(usize),
+    Nothing,
+    New(ProgramState, WorldState),
 }
 
-// A fate, and how many steps were walked to learn it.
-pub struct Looked {
-    pub fate: Fate,
-    pub steps: u32,
-}
-
-// What a turn of the search comes to: a line fails, or the list holds so many pairs and so many steps are left for walking.
+// What a turn of the search comes to: a line fails, or the list holds so many pairs.
 pub enum Turn {
     Fails(FailureKind),
-    Holds(usize, u32),
+    Holds(usize),
 }
 
-// What placing the starts comes to: the empty line fails from one of them, or the list holds so many pairs and so many steps are
-// left for walking.
-pub enum Starts {
-    Fails(FailureKind, WorldState),
-    Holds(usize, u32),
-}
-
-// Where the search ends: no line fails and so many pairs are reached; or the empty line fails from a start; or the line of the
-// placed pair at a place of the list, of so many pairs, fails with one lamp of a kind more; or walking takes too long.
+// Where the search ends: no line fails, and so many pairs are reached; or, with so many pairs in the list, the line that is tried at
+// a place with a label fails.
 pub enum Halted {
     Through(u32),
-    AtStart(FailureKind, WorldState),
-    AtLamp(FailureKind, usize, usize, u8),
-    Long,
+    AtLine(FailureKind, usize, usize, u8),
 }
 
 // What the search finds: the number of pairs reached, or the failure with its start and the number of its lamps.
@@ -76,214 +74,204 @@ pub enum Found {
     Failed(FailureKind, WorldState, u16),
 }
 
-// What the search answers: what it finds at its end; or that walking takes too long, and then nothing is known of the plan.
-pub enum Sought {
-    Ended(Found),
-    Long,
+// The line that is tried at a place with a label: at place 0 it has only its end; at the others its lamps but the last led to the
+// pair that the list has there.
+fn last_stretch(
+    file: &[u8],
+    job: Job,
+    list: &[u32],
+    words: &[u64],
+    count: usize,
+    place: usize,
+    label: u8,
+) -> Stretch
+    requires { ⌜ Opened (now file) job × Listed (tablesBy (now file) job) (now list) (now words) count
+        × Label (tablesBy (now file) job) count place label ⌝ }
+    ensures { λ r. ⌜ Begins (tablesBy (now (file .entry)) job) (table (tablesBy (now (file .entry)) job) (now (list .entry)) count)
+        place label r ⌝ }
+{
+    if place == 0 {
+        let start = WorldState(label);
+        let first = job.first;
+        if is_start(file, job, start) {
+            return Stretch::From(first, start, 0);
+        }
+        return Stretch::Nowhere;
+    }
+    let before = unpack(list[place - 1]);
+    let state = before.state;
+    let world = before.world;
+    Stretch::From(state, world, label)
 }
 
-// What is left for walking after so many steps.
-fn left_after(budget: u32, steps: u32) -> u32 {
-    if budget < steps {
+// A line is at its end, with a pair that is in the list.
+fn is_met(words: &[u64], pair: usize, column: u8) -> bool
+    requires { ⌜ pair < length (now words) * 64 ⌝ }
+    ensures { λ r. ⌜ r ≡ (eqb column 0 && bitAt (now (words .entry)) pair) ⌝ }
+{
+    if column == 0 {
+        return is_set(words, pair);
+    }
+    false
+}
+
+// A line is tried, at its last lamp and then, where it comes there with a pair that is new, at its end.
+fn try_line(
+    file: &[u8],
+    job: Job,
+    memory: &mut [u16],
+    list: &[u32],
+    words: &[u64],
+    count: usize,
+    place: usize,
+    label: u8,
+) -> Tried
+    requires { ⌜ Ready (now file) job (now memory) × Listed (tablesBy (now file) job) (now list) (now words) count
+        × Label (tablesBy (now file) job) count place label ⌝ }
+    ensures { λ r. ⌜ Tries (tablesBy (now (file .entry)) job) (table (tablesBy (now (file .entry)) job) (now (list .entry)) count)
+        place label (now (words .entry)) r (now (memory .exit)) ⌝ }
+{
+    let stretch = last_stretch(file, job, list, words, count, place, label);
+    let Stretch::From(first, start, lamp) = stretch else {
+        return Tried::Nothing;
+    };
+    let mut state = first;
+    let mut world = start;
+    let mut column = lamp;
+    loop {
+        if is_met(words, pair_number(state, world, job.worlds), column) {
+            return Tried::Nothing;
+        }
+        let fate = fate_at(file, job, memory, state, world, column);
+        if let Fate::Fails(failure) = fate {
+            return Tried::Fails(failure);
+        }
+        if column == 0 {
+            return Tried::New(state, world);
+        }
+        let Fate::Arrives(to, next) = fate else {
+            return Tried::Nothing;
+        };
+        state = to;
+        world = next;
+        column = 0;
+    }
+}
+
+// One label at one place; a pair that is new is put in the list.
+fn one_turn(
+    file: &[u8],
+    job: Job,
+    memory: &mut [u16],
+    list: &mut [u32],
+    words: &mut [u64],
+    count: usize,
+    place: usize,
+    label: u8,
+) -> Turn
+    requires { ⌜ Ready (now file) job (now memory) × Listed (tablesBy (now file) job) (now list) (now words) count
+        × Label (tablesBy (now file) job) count place label ⌝ }
+    ensures { λ r. ⌜ Turned (tablesBy (now (file .entry)) job) (now (list .entry)) count place label r
+        (now (list .exit)) (now (words .exit)) × Memory (tablesBy (now (file .entry)) job) (now (memory .exit)) ⌝ }
+{
+    let tried = try_line(file, job, memory, list, words, count, place, label);
+    match tried {
+        Tried::Fails(failure) => Turn::Fails(failure),
+        Tried::Nothing => Turn::Holds(count),
+        Tried::New(state, world) => {
+            set_bit(words, pair_number(state, world, job.worlds));
+            let placed = Placed {
+                state: state,
+                world: world,
+                place: place,
+                label: label,
+            };
+            list[count] = pack(placed);
+            Turn::Holds(count + 1)
+        }
+    }
+}
+
+// The first label of a place.
+fn first_label(place: usize) -> u8
+    ensures { λ r. ⌜ r ≡ firstLabel place ⌝ }
+{
+    if place == 0 {
         return 0;
     }
-    budget - steps
+    1
 }
 
-// A pair is placed in the list unless its bit is set. It is tested at the line's end at that moment.
-fn visit(
-    fates: &[u16],
-    file: &[u8],
-    job: Job,
-    list: &mut [u32],
-    words: &mut [u64],
-    count: usize,
-    budget: u32,
-    placed: Placed,
-) -> Turn
-    requires { ⌜ Ready (now file) job (now fates) × CanVisit (tablesOf (now file)) (now list) (now words) count placed ⌝ }
-    ensures { λ r. ⌜ Came (tablesOf (now (file .entry))) (now (list .entry)) (now (words .entry)) count placed
-        r (now (list .exit)) (now (words .exit)) ⌝ }
+// The last label of a place.
+fn last_label(job: Job, place: usize) -> u8
+    requires { ⌜ 1 ≤ job .worlds ⌝ }
+    ensures { λ r. ⌜ ((s : List ℕ) → r + 1 ≡ firstLabel place + labels (tablesBy s job) place) ⌝ }
 {
-    if is_set(words, placed.pair) {
-        return Turn::Holds(count, budget);
+    if place == 0 {
+        return job.worlds - 1;
     }
-    let end = fate_at(fates, file, job, placed.pair, 0);
-    let fate = end.fate;
-    let Fate::Fails(kind) = fate else {
-        set_bit(words, placed.pair);
-        list[count] = pack(placed);
-        return Turn::Holds(count + 1, left_after(budget, end.steps));
-    };
-    Turn::Fails(kind)
+    job.kinds
 }
 
-// One placed pair is tried with one kind of lamp.
-fn one_turn(
-    fates: &[u16],
+// Place after place is tried with all its labels.
+fn search_places(
     file: &[u8],
     job: Job,
+    memory: &mut [u16],
     list: &mut [u32],
     words: &mut [u64],
-    count: usize,
-    budget: u32,
-    from: usize,
-    kind: u8,
-) -> Turn
-    requires { ⌜ Ready (now file) job (now fates) × CanTurn (tablesOf (now file)) (now list) (now words) count from kind ⌝ }
-    ensures { λ r. ⌜ After (tablesOf (now (file .entry))) (now (list .entry)) count from kind
-        r (now (list .exit)) (now (words .exit)) ⌝ }
-{
-    let parent = unpack(list[from]);
-    let looked = fate_at(fates, file, job, parent.pair, kind);
-    let left = left_after(budget, looked.steps);
-    let fate = looked.fate;
-    match fate {
-        Fate::Succeeds => Turn::Holds(count, left),
-        Fate::Fails(failure) => Turn::Fails(failure),
-        Fate::Arrives(pair) => {
-            let placed = Placed {
-                pair: pair,
-                parent: from,
-                kind: kind,
-            };
-            visit(fates, file, job, list, words, count, left, placed)
-        }
-    }
-}
-
-// The world state s is taken, if it is marked as a start: its pair is that of the first program state.
-fn place_start(
-    fates: &[u16],
-    file: &[u8],
-    job: Job,
-    list: &mut [u32],
-    words: &mut [u64],
-    count: usize,
-    budget: u32,
-    s: u8,
-) -> Turn
-    requires { ⌜ Ready (now file) job (now fates)
-        × Starting (tablesOf (now file)) (now list) (now words) count s × (s < job .worlds) ⌝ }
-    ensures { λ r. ⌜ AfterStart (tablesOf (now (file .entry))) s r (now (list .exit)) (now (words .exit)) ⌝ }
-{
-    let start = WorldState(s);
-    if is_start(file, job, start) {
-        let placed = Placed {
-            pair: pair_number(job.first, start, job.worlds),
-            parent: s as usize,
-            kind: 0,
-        };
-        return visit(fates, file, job, list, words, count, budget, placed);
-    }
-    Turn::Holds(count, budget)
-}
-
-// The starts are taken in ascending order.
-fn place_starts(
-    fates: &[u16],
-    file: &[u8],
-    job: Job,
-    list: &mut [u32],
-    words: &mut [u64],
-    budget: u32,
-) -> Starts
-    requires { ⌜ Ready (now file) job (now fates) × Listed (tablesOf (now file)) (now list) (now words) 0 ⌝ }
-    ensures { λ r. ⌜ AfterStarts (tablesOf (now (file .entry))) r (now (list .exit)) (now (words .exit)) ⌝ }
-{
-    let mut count = 0;
-    let mut left = budget;
-    let mut s: u8 = 0;
-    while s < job.worlds {
-        let turn = place_start(fates, file, job, list, words, count, left, s);
-        match turn {
-            Turn::Fails(failure) => return Starts::Fails(failure, WorldState(s)),
-            Turn::Holds(n, rest) => {
-                count = n;
-                left = rest;
-            }
-        }
-        s += 1;
-    }
-    Starts::Holds(count, left)
-}
-
-// The starts are placed; then each placed pair, in the order of the list, is tried with all kinds of lamps. Whether the steps for
-// walking are spent is asked once for each placed pair, whose walks are at most 30 of at most S·W steps.
-fn search_pairs(
-    fates: &[u16],
-    file: &[u8],
-    job: Job,
-    list: &mut [u32],
-    words: &mut [u64],
-    budget: u32,
 ) -> Halted
-    requires { ⌜ CanSearch (now file) job (now fates) (now list) (now words) ⌝ }
-    ensures { λ r. ⌜ Searched (tablesOf (now (file .entry))) (now (fates .entry)) r (now (list .exit)) ⌝ }
+    requires { ⌜ Ready (now file) job (now memory) × (pairs (tablesBy (now file) job) ≤ length (now list))
+        × (pairs (tablesBy (now file) job) ≤ length (now words) * 64) ⌝ }
+    ensures { λ r. ⌜ Searched (tablesBy (now (file .entry)) job) r (now (list .exit)) ⌝ }
 {
     let pairs = (job.states as usize + 1) * job.worlds as usize;
     clear_bits(words, pairs);
-    let starts = place_starts(fates, file, job, list, words, budget);
     let mut count = 0;
-    let mut left = budget;
-    match starts {
-        Starts::Fails(failure, start) => return Halted::AtStart(failure, start),
-        Starts::Holds(n, rest) => {
-            count = n;
-            left = rest;
-        }
-    }
-    let mut from = 0;
-    let found = 'search: loop {
-        if (fates.len() == 0) & (left == 0) {
-            break 'search Halted::Long;
-        }
-        let mut kind: u8 = 1;
-        while kind <= job.kinds {
-            let turn = one_turn(fates, file, job, list, words, count, left, from, kind);
+    let mut place = 0;
+    let halted = 'search: loop {
+        let last = last_label(job, place);
+        let mut label = first_label(place);
+        while label <= last {
+            let turn = one_turn(file, job, memory, list, words, count, place, label);
             match turn {
-                Turn::Fails(failure) => break 'search Halted::AtLamp(failure, count, from, kind),
-                Turn::Holds(n, rest) => {
+                Turn::Fails(failure) => break 'search Halted::AtLine(failure, count, place, label),
+                Turn::Holds(n) => {
                     count = n;
-                    left = rest;
                 }
             }
-            kind += 1;
+            label += 1;
         }
-        from += 1;
-        if count <= from {
+        if count <= place {
             break 'search Halted::Through(count_bits(words, pairs));
         }
+        place += 1;
     };
-    found
+    halted
 }
 
 // The search of the check: the number of pairs reached, where no line fails; else the first failure, whose line is written at the
-// front of the line buffer. With an empty table of fates it walks, and is given up after about as many steps as the budget has. It
-// is for the crate above and not for users: it asks for the job that the reader answered for this file, for a table that is empty
-// or filled, and for buffers with room.
+// front of the line buffer. It is for the crate above and not for users: it asks for the job that the reader answered for this file,
+// for a memory of its tables, and for buffers with room.
 pub fn search(
-    fates: &[u16],
     file: &[u8],
     job: Job,
+    memory: &mut [u16],
     line: &mut [u8],
     list: &mut [u32],
     words: &mut [u64],
-    budget: u32,
-) -> Sought
-    requires { ⌜ CanSearch (now file) job (now fates) (now list) (now words)
-        × (job .states * job .worlds + 1 ≤ length (now line)) ⌝ }
-    ensures { λ r. ⌜ Seeks (tablesOf (now (file .entry))) (now (fates .entry)) r (now (line .entry)) (now (line .exit)) ⌝ }
+) -> Found
+    requires { ⌜ Ready (now file) job (now memory)
+        × Room (tablesBy (now file) job) (length (now line)) (length (now list)) (length (now words)) ⌝ }
+    ensures { λ r. ⌜ Finds (tablesBy (now (file .entry)) job) r (now (line .entry)) (now (line .exit)) ⌝ }
 {
-    let halted = search_pairs(fates, file, job, list, words, budget);
+    let halted = search_places(file, job, memory, list, words);
     match halted {
-        Halted::Through(count) => Sought::Ended(Found::Accepted(count)),
-        Halted::AtStart(failure, start) => Sought::Ended(Found::Failed(failure, start, 0)),
-        Halted::AtLamp(failure, count, from, kind) => {
-            let lamps = lamps_before(&list[..count], from);
-            let start = write_line(&list[..count], line, from, kind, lamps);
-            Sought::Ended(Found::Failed(failure, start, lamps as u16 + 1))
+        Halted::Through(count) => Found::Accepted(count),
+        Halted::AtLine(failure, count, place, label) => {
+            let lamps = lamps_at(&list[..count], place);
+            let start = write_line(&list[..count], line, place, label, lamps);
+            Found::Failed(failure, start, lamps as u16)
         }
-        Halted::Long => Sought::Long,
     }
 }

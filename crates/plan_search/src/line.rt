@@ -1,47 +1,42 @@
-// The line of a placed pair, read off the list by following the parents to the start.
+// The line that is tried at a place, read off the list by going from place to place, back to place 0.
 ghost use mathlib.Core.Path.{_≡_};
-ghost use Prim.Native.Nat.{_≤_, _<_};
+ghost use Prim.Native.Nat.{ℕ, _≤_, _<_};
 ghost use lib.ListN.{length};
-ghost use Rattle.search_laws.proofs.Table.{start, path};
-ghost use Rattle.plan_search.specs.ListEntries.{entries, Chained};
-ghost use Rattle.plan_search.specs.Answer.{Written};
+ghost use Rattle.check_laws.specs.Search.{lineLamps};
+ghost use Rattle.plan_search.specs.Placing.{entries, Chained, Written};
 use crate::list::unpack;
 use lamp_line::WorldState;
 
-// How many lamps are passed before the placed pair is reached.
-pub fn lamps_before(list: &[u32], from: usize) -> usize
-    requires { ⌜ Chained (now list) × (from < length (now list)) × (length (now list) ≤ 4160) ⌝ }
-    ensures { λ r. ⌜ r ≡ length (path (entries (now (list .entry))) from) ⌝ }
+// How many lamps the lines have that are tried at a place.
+pub fn lamps_at(list: &[u32], from: usize) -> usize
+    requires { ⌜ Chained (now list) × (from ≤ length (now list)) × (length (now list) ≤ 4160) ⌝ }
+    ensures { λ r. ⌜ ((worlds label : ℕ) → r ≡ length (lineLamps (entries worlds (now (list .entry))) from label)) ⌝ }
 {
     let mut place = from;
     let mut lamps: usize = 0;
-    loop {
-        let placed = unpack(list[place]);
-        if placed.kind == 0 {
-            return lamps;
-        }
-        place = placed.parent;
+    while 0 < place {
+        let before = unpack(list[place - 1]);
+        place = before.place;
         lamps += 1;
     }
+    lamps
 }
 
-// Writes these lamps and one of the kind behind them at the front of the buffer, the last first; answers the start.
-pub fn write_line(list: &[u32], line: &mut [u8], from: usize, kind: u8, lamps: usize) -> WorldState
-    requires { ⌜ Chained (now list) × (from < length (now list)) × (length (now list) ≤ 4160) × (lamps < length (now line))
-        × (lamps ≡ length (path (entries (now list)) from)) × (start (entries (now list)) from < 256) ⌝ }
-    ensures { λ r. ⌜ Written (now (list .entry)) from kind lamps (now (line .entry)) r (now (line .exit)) ⌝ }
+// Writes the line that is tried at a place with a label at the front of the buffer, its last lamp first; answers its start.
+pub fn write_line(list: &[u32], line: &mut [u8], from: usize, label: u8, lamps: usize) -> WorldState
+    requires { ⌜ Chained (now list) × (from ≤ length (now list)) × (length (now list) ≤ 4160) × (lamps ≤ length (now line))
+        × ((worlds label : ℕ) → lamps ≡ length (lineLamps (entries worlds (now list)) from label)) ⌝ }
+    ensures { λ r. ⌜ ((worlds : ℕ) → Written (entries worlds (now (list .entry))) from label lamps (now (line .entry)) r (now (line .exit))) ⌝ }
 {
-    let mut at = lamps;
     let mut place = from;
-    let mut lamp = kind;
-    loop {
-        line[at] = lamp;
-        let placed = unpack(list[place]);
-        if placed.kind == 0 {
-            return WorldState(placed.parent as u8);
-        }
+    let mut lamp = label;
+    let mut at = lamps;
+    while 0 < place {
         at -= 1;
-        place = placed.parent;
-        lamp = placed.kind;
+        line[at] = lamp;
+        let before = unpack(list[place - 1]);
+        place = before.place;
+        lamp = before.label;
     }
+    WorldState(lamp)
 }

@@ -11,8 +11,9 @@ use Rattle.search_laws.proofs.Lex.{≺-irrefl}
 use Rattle.search_laws.proofs.Keys.{key, stem-start}
 use Rattle.search_laws.specs.Graph.{Graph, Plain}
 use Rattle.search_laws.proofs.Graph.{Least, lowest-end-first}
-use Rattle.search_laws.proofs.Table.{Entry, entry, entryAt, node, start, stemOf}
-use Rattle.search_laws.proofs.Grown.{grown, grown-length, grown-new}
+use Rattle.search_laws.specs.Entries.{Entry, entry, entryAt, node, start, grown}
+use Rattle.search_laws.proofs.Table.{stemOf}
+use Rattle.search_laws.proofs.Grown.{grown-length, grown-new}
 use Rattle.search_laws.proofs.Starts.{StartsTaken, Early, early, skip-start, take-start, early-least, starts-tested}
 use Rattle.search_laws.proofs.Starts.{first-group}
 use Rattle.search_laws.proofs.Turns.{At}

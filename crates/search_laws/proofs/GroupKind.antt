@@ -13,7 +13,8 @@ use Rattle.search_laws.proofs.Lex.{≼-trans, ≺-trans}
 use Rattle.search_laws.proofs.Keys.{stem, key, stem-more, stem-more-less, stem-kind-less, key-by-stem}
 use Rattle.search_laws.specs.Graph.{Graph, Kind, bad-end, bad-lamp, FailsFrom}
 use Rattle.search_laws.proofs.Graph.{Least, reach-fails}
-use Rattle.search_laws.proofs.Table.{Entry, node, start, path, stemOf, keyOn, stemOn}
+use Rattle.search_laws.specs.Entries.{Entry, node, start, path}
+use Rattle.search_laws.proofs.Table.{stemOf, keyOn, stemOn}
 use Rattle.search_laws.proofs.Table.{Open, untried, lamp-fails, end-fails, fails-open}
 use Rattle.search_laws.proofs.Grown.{below-or-not, below-or-last}
 use Rattle.search_laws.proofs.Invariant.{Tried, GroupTried, tried?, Invariant, group-in-table}

@@ -10,9 +10,10 @@ use Rattle.search_laws.specs.Lists.{_▸_, _≺_}
 use Rattle.search_laws.proofs.Lex.{≼-refl}
 use Rattle.search_laws.proofs.Keys.{stem, lineKey, stem-longer, stem-more, key-by-stem, key-more}
 use Rattle.search_laws.specs.Graph.{Graph, Kind, Reach, past-lamp}
-use Rattle.search_laws.proofs.Table.{Entry, entryKey, entryStem, entryAt, node, start, path, keyOf, stemOf, keyOn, stemOn}
+use Rattle.search_laws.specs.Entries.{Entry, entryAt, node, start, path, grown, onward}
+use Rattle.search_laws.proofs.Table.{entryKey, entryStem, keyOf, stemOf, keyOn, stemOn}
 use Rattle.search_laws.proofs.Table.{Known}
-use Rattle.search_laws.proofs.Grown.{below-or-not, below-or-last, grown, onward, grown-length, still-at, was-at}
+use Rattle.search_laws.proofs.Grown.{below-or-not, below-or-last, grown-length, still-at, was-at}
 use Rattle.search_laws.proofs.Grown.{grown-all, grown-pairs, known-grown}
 use Rattle.search_laws.proofs.Invariant.{Tried, GroupTried, Invariant, group-in-table}
 

@@ -1,17 +1,17 @@
 -- The table with one entry more: the old entries stand where they stood, and the new one is the last.
 use mathlib.Core.Path.{_≡_, sym, ap, subst}
 use mathlib.Core.Logic.{_⊎_, inl, inr, ⊎-elim}
-use mathlib.Core.List.{List, [], _∷_, _++_}
+use mathlib.Core.List.{List, [], _∷_}
 use Prim.Native.Nat.{ℕ, _+_, _≤_, _<_}
 use native.Mathlib.Decide.{decLt}
 use native.Mathlib.Omega.{arith}
 use lib.ListN.{length, length-append, List·getD-append}
 use lib.Seq.{getD-append-seam}
 use Rattle.lamp_line.specs.Lists.{_≼_}
-use Rattle.search_laws.specs.Lists.{_▸_}
 use Rattle.search_laws.proofs.Lex.{≼-refl}
 use Rattle.search_laws.proofs.Keys.{lineKey}
-use Rattle.search_laws.proofs.Table.{Entry, entry, entryKey, entryAt, start, path, Known}
+use Rattle.search_laws.specs.Entries.{Entry, entry, entryAt, grown}
+use Rattle.search_laws.proofs.Table.{entryKey, Known}
 
 -- A number is below another, or not.
 pub below-or-not : (i n : ℕ) → (i < n) ⊎ (n ≤ i)
@@ -24,14 +24,6 @@ below-or-not i n = go (decLt i n)
 -- A number below h + 1 is below h, or is h.
 pub below-or-last : (i h : ℕ) → i < h + 1 → (i < h) ⊎ (i ≡ h)
 below-or-last i h l = ⊎-elim (λ x. inl x) (λ x. inr (omega arith)) (below-or-not i h)
-
--- One entry behind all others.
-abbrev pub grown : List Entry → Entry → List Entry
-grown E z = E ++ (z ∷ [])
-
--- The entry of the node y, found from the entry i past a lamp of the kind c.
-abbrev pub onward : List Entry → ℕ → ℕ → ℕ → Entry
-onward E i c y = entry y (start E i) (path E i ▸ c)
 
 module _ (E : List Entry) (z : Entry) where
   -- It has one entry more.

@@ -10,7 +10,8 @@ use lib.ListN.{length}
 use Rattle.lamp_line.specs.Lists.{_≼_}
 use Rattle.search_laws.specs.Lists.{_≺_}
 use Rattle.search_laws.specs.Graph.{Graph, Kind, Reach}
-use Rattle.search_laws.proofs.Table.{Entry, node, start, path, keyOf, stemOf, keyOn, stemOn, Covers}
+use Rattle.search_laws.specs.Entries.{Entry, node, start, path}
+use Rattle.search_laws.proofs.Table.{keyOf, stemOf, keyOn, stemOn, Covers}
 
 -- The entry i was tried with the kind c, where the group from a to b has been tried with the kinds below k and, up to the entry
 -- m, with k: it stands before the group, or in it and was tried so.

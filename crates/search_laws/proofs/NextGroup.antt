@@ -11,7 +11,8 @@ use Rattle.search_laws.specs.Lists.{_▸_, _≺_}
 use Rattle.search_laws.proofs.Lex.{≺-trans}
 use Rattle.search_laws.proofs.Keys.{key, stem-more-less, key-stems, key-length}
 use Rattle.search_laws.specs.Graph.{Graph, Kind, Reach, FailsFrom}
-use Rattle.search_laws.proofs.Table.{Entry, node, start, path, keyOf, stemOf, keyOn, Known}
+use Rattle.search_laws.specs.Entries.{Entry, node, start, path}
+use Rattle.search_laws.proofs.Table.{keyOf, stemOf, keyOn, Known}
 use Rattle.search_laws.proofs.Table.{Open, untried, lamp-fails, end-fails, fails-open, reach-known}
 use Rattle.search_laws.proofs.Grown.{below-or-not, below-or-last}
 use Rattle.search_laws.proofs.Invariant.{Tried, GroupTried, tried?, Invariant}

@@ -5,7 +5,7 @@ use Prim.Native.Nat.{ℕ, _≤_, _<_}
 use native.Mathlib.Omega.{arith}
 use lib.ListN.{length}
 use Rattle.plans.proofs.Pigeonhole.{pigeonhole}
-use Rattle.search_laws.proofs.Table.{Entry, node}
+use Rattle.search_laws.specs.Entries.{Entry, node}
 use Rattle.search_laws.proofs.Grown.{below-or-not}
 
 -- At most as many entries as nodes.

@@ -12,8 +12,9 @@ use Rattle.search_laws.proofs.Lex.{≼-trans}
 use Rattle.search_laws.proofs.Keys.{stem, key, lineKey, stem-longer, key-by-stem, key-start, key-end}
 use Rattle.search_laws.specs.Graph.{Graph, Kind, Fails, bad-end, Reach, from-start, FailsFrom}
 use Rattle.search_laws.proofs.Graph.{Least}
-use Rattle.search_laws.proofs.Table.{Entry, entry, node, start, path, keyOf, stemOf, Known}
-use Rattle.search_laws.proofs.Grown.{below-or-not, below-or-last, grown, grown-length, was-at, grown-all, grown-pairs}
+use Rattle.search_laws.specs.Entries.{Entry, entry, node, start, path, grown}
+use Rattle.search_laws.proofs.Table.{keyOf, stemOf, Known}
+use Rattle.search_laws.proofs.Grown.{below-or-not, below-or-last, grown-length, was-at, grown-all, grown-pairs}
 use Rattle.search_laws.proofs.Grown.{known-grown, known-new}
 use Rattle.search_laws.proofs.Invariant.{Tried, GroupTried, Invariant}
 use Rattle.search_laws.proofs.NextGroup.{behind-later}

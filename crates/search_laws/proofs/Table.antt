@@ -4,25 +4,16 @@ use mathlib.Core.Path.{_≡_, sym, subst}
 use mathlib.Core.List.{List, [], _∷_, _++_, append-nil}
 use Prim.Native.Nat.{ℕ, _≤_, _<_}
 use native.Mathlib.Omega.{arith}
-use lib.ListN.{length, getD}
+use lib.ListN.{length}
 use Rattle.lamp_line.specs.Lists.{_≼_}
 use Rattle.lamp_line.specs.Tables.{Kinds}
 use Rattle.search_laws.specs.Lists.{_▸_}
+use Rattle.search_laws.specs.Entries.{Entry, entryAt, node, start, path}
 use Rattle.search_laws.proofs.Lex.{≼-trans}
 use Rattle.search_laws.proofs.Keys.{stem, key, lineKey, key-more, key-end, key-prefix}
 use Rattle.search_laws.specs.Graph.{Graph, Kind, Fails, bad-end, bad-lamp, goes-on, Reach, from-start, past-lamp}
 use Rattle.search_laws.specs.Graph.{FailsFrom}
 use Rattle.search_laws.proofs.Graph.{snoc-append}
-
--- A node, and the start and the lamps by which it was found.
-pub record Entry : Type 0 where
-  pub node : ℕ
-  pub start : ℕ
-  pub path : List ℕ
-
--- An entry by its parts.
-abbrev pub entry : ℕ → ℕ → List ℕ → Entry
-entry x s p = record { node = x; start = s; path = p }
 
 -- The key of its line.
 abbrev pub entryKey : Entry → List ℕ
@@ -32,22 +23,7 @@ entryKey v = lineKey (v .path) (v .start)
 abbrev pub entryStem : Entry → List ℕ
 entryStem v = stem (v .start) (v .path)
 
--- ---- the entries of a table by their places
-
--- The entry at a place; beyond the last there is none, and this is of no account.
-abbrev pub entryAt : List Entry → ℕ → Entry
-entryAt E i = getD E i (entry 0 0 [])
-
--- Its node, its start, its lamps, its key and its stem.
-abbrev pub node : List Entry → ℕ → ℕ
-node E i = entryAt E i .node
-
-abbrev pub start : List Entry → ℕ → ℕ
-start E i = entryAt E i .start
-
-abbrev pub path : List Entry → ℕ → List ℕ
-path E i = entryAt E i .path
-
+-- The key and the stem of the entry at a place.
 abbrev pub keyOf : List Entry → ℕ → List ℕ
 keyOf E i = entryKey (entryAt E i)
 

@@ -12,8 +12,9 @@ use Rattle.search_laws.proofs.Lex.{≼-refl, ≺-irrefl}
 use Rattle.search_laws.proofs.Keys.{key}
 use Rattle.search_laws.specs.Graph.{Graph, Kind, Reach, FailsFrom, Plain}
 use Rattle.search_laws.proofs.Graph.{Least, lowest-end-first}
-use Rattle.search_laws.proofs.Table.{Entry, entryStem, entryAt, node, start, path, stemOf, Known}
-use Rattle.search_laws.proofs.Grown.{grown, onward, grown-length, grown-new, still-at, was-at, grown-pairs, known-new}
+use Rattle.search_laws.specs.Entries.{Entry, entryAt, node, start, path, grown, onward}
+use Rattle.search_laws.proofs.Table.{entryStem, stemOf, Known}
+use Rattle.search_laws.proofs.Grown.{grown-length, grown-new, still-at, was-at, grown-pairs, known-new}
 use Rattle.search_laws.proofs.Invariant.{Invariant}
 use Rattle.search_laws.proofs.GroupMember.{seen, member-done, add}
 use Rattle.search_laws.proofs.GroupKind.{Found, at-lamp, at-end, found-least, kind-done}

@@ -1,5 +1,7 @@
 -- Each arm is the entry of its ending.
 use borrow.Author.Needs.{needs}
+use Prim.Native.Nat.{_+_}
+use mathlib.Core.Path.{ap}
 use Rattle.lamp_fates.proofs.ending_entry.Statement.{statement}
 use Rattle.lamp_fates.proofs.ending_entry.Tie as tie
 
@@ -9,15 +11,29 @@ enum-told c = search needs
 enum-known-ending : tie.Need-enum-known-ending
 enum-known-ending c = search needs
 
-kind-entry-requires : tie.Need-kind-entry-requires
-kind-entry-requires c κs = search needs
+failure-number-requires : tie.Need-failure-number-requires
+failure-number-requires c κs = search needs
+
+cast-result : tie.Need-cast-result
+cast-result c = search needs
+
+add-result : tie.Need-add-result
+add-result c = search needs
 
 returns : tie.Need-returns
 returns c = search needs
 
 returns-2 : tie.Need-returns-2
-returns-2 c = rw (c .before .before .ending .given .1) (c .kind-entry .ensures)
+returns-2 c = rw (c .before .before .ending .given .1) (ap (_+_ 1) (c .failure-number .ensures))
 
 pub ending-entry-spec : {M : Type 1} → statement M
 ending-entry-spec =
-    tie.close (tie.spec enum-told enum-known-ending kind-entry-requires returns returns-2)
+    tie.close
+    (tie.spec
+    enum-told
+    enum-known-ending
+    failure-number-requires
+    cast-result
+    add-result
+    returns
+    returns-2)

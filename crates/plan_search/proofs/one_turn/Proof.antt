@@ -1,99 +1,83 @@
--- The fate of the placed pair at the lamp decides; a pair in which it arrives is visited.
+-- A failure is handed on, nothing new leaves all as it is, and a new pair is put in the list.
 use borrow.Author.Needs.{needs}
-use mathlib.Core.Path.{_≡_, refl, sym, ap, _∙_}
+use mathlib.Core.Path.{refl}
 use native.Mathlib.Omega.{arith}
-use lib.ListN.{getD}
-use Rattle.job_layout.specs.JobTables.{tablesOf}
-use Rattle.job_tables.proofs.Ranges.{kinds-are}
-use Rattle.check_laws.specs.Fates.{fate}
-use Rattle.plan_search.specs.declared.Fate.{Fate}
-use Rattle.plan_search.specs.declared.Fate.the-variants.{Succeeds}
-use Rattle.plan_search.specs.declared.Placed.{Placed}
-use Rattle.plan_search.specs.ListEntries.{unpacked}
-use Rattle.plan_search.specs.FateReading.{fateTo}
-use Rattle.plan_search.proofs.FateReads.{ready-tables}
-use Rattle.plan_search.proofs.ListLaws.{pairs-few}
-use Rattle.plan_search.proofs.LampTurns.{tried-below, tried-range, turn-succeeds, turn-fails, arrival-range, turn-came}
+use Rattle.job_file.proofs.WellFormed.{well-formed-by}
+use Rattle.plan_search.proofs.NewPairs.{few-pairs, list-has-room, bit-has-room, packable, turn-placed}
+use Rattle.plan_search.proofs.Turns.{tries-fails, tries-nothing, tries-new}
 use Rattle.plan_search.proofs.one_turn.Statement.{statement}
 use Rattle.plan_search.proofs.one_turn.Tie as tie
 
-mul-unpack : tie.Need-mul-unpack
-mul-unpack c =
-    let b = c .before .before .before .before in
-    let wf = ready-tables _ _ _ (b .pre .0) in
-    omega (arith, tried-below _ wf _ _ _ _ _ (b .pre .1 .searching), pairs-few _ wf)
+try-line-requires : tie.Need-try-line-requires
+try-line-requires c κs = search needs
 
-slice-read-unpack : tie.Need-slice-read-unpack
-slice-read-unpack c =
-    let b = c .before .before .before .before .before in
-    let wf = ready-tables _ _ _ (b .pre .0) in
-    omega (arith, tried-below _ wf _ _ _ _ _ (b .pre .1 .searching), b .pre .1 .searching .listed .list-room)
-
-unpack-requires : tie.Need-unpack-requires
-unpack-requires c κs = search needs
-
-fate-at-requires : tie.Need-fate-at-requires
-fate-at-requires c κs =
-    let b = c .before .before .before .before .before .before in (
-      b .pre .0,
-      rw (c .unpack .ensures) (tried-range _ (ready-tables _ _ _ (b .pre .0)) _ _ _ _ _ (b .pre .1 .searching)),
-      omega (arith, b .pre .1 .high, kinds-are _ _ (b .pre .0 .opened)),
-    )
-
-left-after-requires : tie.Need-left-after-requires
-left-after-requires c κs = search needs
-
--- The pair's fate is what was learnt.
-told :
-    (c : tie.After-fate-at) (r : Fate) → c .fate-at .result .fate ≡ r →
-    fate (tablesOf (c .before .before .before .before .before .before .before .args .file .now))
-    (unpacked (getD (c .before .before .before .before .before .before .before .args .list .now)
-    (c .before .before .before .before .before .before .before .args .from) 0) .pair)
-    (c .before .before .before .before .before .before .before .args .kind) ≡ fateTo r
-told c r e =
-    let a = c .before .before .before .before .before .before .before .args in
-    ap (λ (p : Placed). fate (tablesOf (a .file .now)) (p .pair) (a .kind)) (sym (c .before .unpack .ensures))
-    ∙ sym (c .fate-at .ensures) ∙ ap fateTo e
+enum-known-tried : tie.Need-enum-known-tried
+enum-known-tried c = search needs
 
 enum-told : tie.Need-enum-told
 enum-told c = search needs
 
-enum-known-fate : tie.Need-enum-known-fate
-enum-known-fate c = search needs
+enum-known-tried-2 : tie.Need-enum-known-tried-2
+enum-known-tried-2 c = search needs
 
-enum-known-fate-2 : tie.Need-enum-known-fate-2
-enum-known-fate-2 c = search needs
+pair-number-requires : tie.Need-pair-number-requires
+pair-number-requires c κs = search needs
 
-visit-requires : tie.Need-visit-requires
-visit-requires c κs =
-    let f = c .before .before .before in
-    let l = f .before .before .before in
-    let b = l .before .before .before .before .before .before .before in
-    let wf = ready-tables _ _ _ (b .pre .0) in
-    let searching = b .pre .1 .searching in (
-      b .pre .0,
-      record {
-        listed = searching .listed;
-        pair-range = arrival-range _ wf _ _ _ _ _ searching (b .pre .1 .high) _ (told l _ (f .fate2 .given .1));
-        parent-range = omega (arith, tried-below _ wf _ _ _ _ _ searching, pairs-few _ wf);
-        kind-range = omega (arith, b .pre .1 .high, wf .kinds-range .1);
-      },
+set-bit-requires : tie.Need-set-bit-requires
+set-bit-requires c κs =
+    let n = c .before .before .before in
+    let v = n .before .before .before .before in
+    let b = v .before .before .before .before .before .before .before .before in
+    omega (
+      arith,
+      c .pair-number .ensures,
+      bit-has-room (well-formed-by _ _ (b .pre .0 .opened)) (b .pre .1) (b .pre .2)
+          (tries-new (v .try-line .ensures) (n .tried2 .given .1)),
     )
 
-returns : tie.Need-returns
-returns c =
-    let l = c .before .before .before in
-    let b = l .before .before .before .before .before .before .before in
-    turn-succeeds _ (ready-tables _ _ _ (b .pre .0)) _ _ _ _ _ (b .pre .1 .searching) (b .pre .1 .high)
-    (told l Succeeds (c .enum-told .given .1))
+pack-requires : tie.Need-pack-requires
+pack-requires c κs =
+    let p = c .before .before .before in
+    let n = p .before .before .before in
+    let v = n .before .before .before .before in
+    let b = v .before .before .before .before .before .before .before .before in
+    packable (well-formed-by _ _ (b .pre .0 .opened)) (b .pre .1) (b .pre .2)
+    (tries-new (v .try-line .ensures) (n .tried2 .given .1))
 
-returns-2 : tie.Need-returns-2
-returns-2 c =
-    let l = c .before .before .before .before in
-    let b = l .before .before .before .before .before .before .before in (
-      turn-fails _ (ready-tables _ _ _ (b .pre .0)) _ _ _ _ _ (b .pre .1 .searching) (b .pre .1 .high) _
-          (told l _ (c .before .fate .given .1)),
-      refl,
+mul-list : tie.Need-mul-list
+mul-list c =
+    let p = c .before .before .before .before in
+    let n = p .before .before .before in
+    let v = n .before .before .before .before in
+    let b = v .before .before .before .before .before .before .before .before in
+    omega (
+      arith,
+      few-pairs (well-formed-by _ _ (b .pre .0 .opened)) (b .pre .1) (b .pre .2)
+          (tries-new (v .try-line .ensures) (n .tried2 .given .1)),
+    )
+
+slice-write-list : tie.Need-slice-write-list
+slice-write-list c =
+    let p = c .before .before .before .before in
+    let n = p .before .before .before in
+    let v = n .before .before .before .before in
+    let b = v .before .before .before .before .before .before .before .before in
+    omega (
+      arith,
+      list-has-room (well-formed-by _ _ (b .pre .0 .opened)) (b .pre .1) (b .pre .2)
+          (tries-new (v .try-line .ensures) (n .tried2 .given .1)),
+    )
+
+add-t24 : tie.Need-add-t24
+add-t24 c =
+    let p = c .before .before .before .before in
+    let n = p .before .before .before in
+    let v = n .before .before .before .before in
+    let b = v .before .before .before .before .before .before .before .before in
+    omega (
+      arith,
+      few-pairs (well-formed-by _ _ (b .pre .0 .opened)) (b .pre .1) (b .pre .2)
+          (tries-new (v .try-line .ensures) (n .tried2 .given .1)),
     )
 
 same-length : tie.Need-same-length
@@ -102,31 +86,84 @@ same-length c = search needs
 same-length-2 : tie.Need-same-length-2
 same-length-2 c = search needs
 
+same-length-3 : tie.Need-same-length-3
+same-length-3 c = search needs
+
+returns : tie.Need-returns
+returns c =
+    let n = c .before in
+    let v = n .before .before .before .before in (
+      record {
+        turn-is = tries-fails (v .try-line .ensures) (n .tried .given .1);
+        left = refl;
+      },
+      v .try-line .ensures .remembers,
+    )
+
+same-length-4 : tie.Need-same-length-4
+same-length-4 c = search needs
+
+same-length-5 : tie.Need-same-length-5
+same-length-5 c = search needs
+
+same-length-6 : tie.Need-same-length-6
+same-length-6 c = search needs
+
+returns-2 : tie.Need-returns-2
+returns-2 c =
+    let v = c .before .before .before .before in
+    let b = v .before .before .before .before .before .before .before .before in (
+      record {
+        turn-is = tries-nothing (v .try-line .ensures) (c .enum-told .given .1);
+        left = (omega arith, b .pre .1);
+      },
+      v .try-line .ensures .remembers,
+    )
+
+same-length-7 : tie.Need-same-length-7
+same-length-7 c = search needs
+
+same-length-8 : tie.Need-same-length-8
+same-length-8 c = search needs
+
+same-length-9 : tie.Need-same-length-9
+same-length-9 c = search needs
+
 returns-3 : tie.Need-returns-3
 returns-3 c =
-    let v = c .before .before .before .before in
-    let f = v .before .before .before .before in
-    let l = f .before .before .before in
-    let b = l .before .before .before .before .before .before .before in
-    turn-came _ (ready-tables _ _ _ (b .pre .0)) _ _ _ _ _ (b .pre .1 .searching) (b .pre .1 .high) _
-    (told l _ (f .fate2 .given .1))
-    (v .visit .result) (v .visit .last .1 .1 .1 .0) (v .visit .last .1 .1 .1 .1 .0) (v .visit .ensures)
+    let s = c .before .before .before in
+    let p = s .before in
+    let n = p .before .before .before in
+    let v = n .before .before .before .before in
+    let b = v .before .before .before .before .before .before .before .before in (
+      turn-placed (well-formed-by _ _ (b .pre .0 .opened)) (b .pre .1) (b .pre .2)
+          (tries-new (v .try-line .ensures) (n .tried2 .given .1)) (c .pack .ensures) (p .pair-number .ensures) (s .set-bit .ensures),
+      v .try-line .ensures .remembers,
+    )
 
 pub one-turn-spec : {M : Type 1} → statement M
 one-turn-spec =
     tie.close
     (tie.spec
-    mul-unpack
-    slice-read-unpack
-    unpack-requires
-    fate-at-requires
-    left-after-requires
+    try-line-requires
+    enum-known-tried
     enum-told
-    enum-known-fate
-    enum-known-fate-2
-    visit-requires
-    returns
-    returns-2
+    enum-known-tried-2
+    pair-number-requires
+    set-bit-requires
+    pack-requires
+    mul-list
+    slice-write-list
+    add-t24
     same-length
     same-length-2
+    same-length-3
+    returns
+    same-length-4
+    same-length-5
+    same-length-6
+    returns-2
+    same-length-7
+    same-length-8
+    same-length-9
     returns-3)

@@ -1,22 +1,25 @@
--- The three numbers by quotients and remainders.
+-- Each part is the definition's.
 use mathlib.Core.Path.{refl}
-use Rattle.plan_search.specs.ListEntries.{unpacked}
+use Rattle.plan_search.specs.Placing.{unpacked}
 use borrow.Author.Needs.{needs}
 use Rattle.plan_search.proofs.list.unpack.Statement.{statement}
 use Rattle.plan_search.proofs.list.unpack.Tie as tie
 
-cast-t3 : tie.Need-cast-t3
-cast-t3 c = search needs
+cast-t4 : tie.Need-cast-t4
+cast-t4 c = search needs
 
-cast-t6 : tie.Need-cast-t6
-cast-t6 c = search needs
+cast-t7 : tie.Need-cast-t7
+cast-t7 c = search needs
 
-cast-t8 : tie.Need-cast-t8
-cast-t8 c = search needs
+cast-t11 : tie.Need-cast-t11
+cast-t11 c = search needs
+
+cast-t13 : tie.Need-cast-t13
+cast-t13 c = search needs
 
 returns : tie.Need-returns
 unfolding unpacked
 returns c = refl
 
 pub unpack-spec : {M : Type 1} → statement M
-unpack-spec = tie.close (tie.spec cast-t3 cast-t6 cast-t8 returns)
+unpack-spec = tie.close (tie.spec cast-t4 cast-t7 cast-t11 cast-t13 returns)

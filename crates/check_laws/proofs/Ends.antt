@@ -1,0 +1,75 @@
+-- A pair at the ends of lines: what the test of all kinds of ends says, and what it comes to where there is one kind.
+use mathlib.Core.Path.{_≡_, refl}
+use mathlib.Core.Logic.{_≢_}
+use Prim.Native.Nat.{ℕ, zero, suc, _+_, _<_}
+use native.Mathlib.Decide.{decLt}
+use native.Mathlib.Omega.{arith}
+use Rattle.lamp_line.specs.declared.FailureKind.{FailureKind}
+use Rattle.lamp_line.specs.Tables.{Tables, endKinds}
+use Rattle.check_laws.specs.Fates.{Fate, succeeds, fails, arrives, AtEnds, good, bad, fate, endsFrom, atEnds}
+use Rattle.check_laws.proofs.TableGraph.{FailsAt}
+
+module _ (t : Tables) where
+  -- The pair fails at no end.
+  abbrev pub GoodAtEnds : ℕ → Type 0
+  GoodAtEnds x = (e f : ℕ) → e < endKinds t → ¬ (FailsAt t x e f)
+
+  -- The pair fails so at the end e, and at no lower one.
+  pub record BadAtEnd (x e : ℕ) (kind : FailureKind) : Type 0 where
+    pub is-end : e < endKinds t
+    pub fate-is : fate t x e ≡ fails kind
+    pub lowest : (e′ f : ℕ) → e′ < e → ¬ (FailsAt t x e′ f)
+
+  -- What the test of a pair at the ends says.
+  abbrev pub EndsSay : ℕ → AtEnds → Type 0
+  EndsSay x good = GoodAtEnds x
+  EndsSay x (bad e kind) = BadAtEnd x e kind
+
+  -- From the end e on, where the pair fails at none of the lower ones.
+  ends-from :
+      (n e x : ℕ) → e + n ≡ endKinds t → ((e′ f : ℕ) → e′ < e → ¬ (FailsAt t x e′ f)) → EndsSay x (endsFrom t n e x)
+  unfolding endsFrom
+  ends-from zero e x h none = λ e′ f l. none e′ f (omega arith)
+  ends-from (suc n) e x h none = go (ends-from n (e + 1) x (omega arith)) (fate t x e) refl
+    where
+      also : ((kind : FailureKind) → ¬ (fate t x e ≡ fails kind)) → (e′ f : ℕ) → e′ < e + 1 → ¬ (FailsAt t x e′ f)
+      also here e′ f l (kind, g, k) = at (decLt e′ e)
+        where
+          at : Dec (e′ < e) → ⊥
+          at (yes u) = none e′ f u (kind, g, k)
+          at (no u) = let same : e′ ≡ e = omega arith in here kind (rw same at g)
+
+      go :
+          (((e′ f : ℕ) → e′ < e + 1 → ¬ (FailsAt t x e′ f)) → EndsSay x (endsFrom t n (e + 1) x)) →
+          (v : Fate) → fate t x e ≡ v →
+          EndsSay x (elim v as (λ _. AtEnds) [
+            | succeeds ↦ endsFrom t n (e + 1) x
+            | fails kind ↦ bad e kind
+            | arrives y ↦ endsFrom t n (e + 1) x
+          ])
+      go after succeeds f = after (also (λ kind g. let z : _≡_ {A = ℕ} 0 1 = cc in omega arith))
+      go after (fails kind) f = record { is-end = omega arith; fate-is = f; lowest = none }
+      go after (arrives y) f = after (also (λ kind g. let z : _≡_ {A = ℕ} 0 1 = cc in omega arith))
+
+  -- The test of all kinds of ends says so.
+  pub ends-say : (x : ℕ) → EndsSay x (atEnds t x)
+  ends-say x = ends-from (endKinds t) 0 x (omega arith) (λ e f l. absurd (omega arith))
+
+  -- ---- one kind of end
+
+  -- A pair that does not fail at column 0 fails at no end.
+  pub ends-good : (x : ℕ) → ((kind : FailureKind) → fate t x 0 ≢ fails kind) → atEnds t x ≡ good
+  unfolding endKinds endsFrom
+  ends-good x none = go (fate t x 0) none
+    where
+      go :
+          (v : Fate) → ((kind : FailureKind) → v ≢ fails kind) →
+          elim v as (λ _. AtEnds) [ succeeds ↦ good | fails kind ↦ bad 0 kind | arrives y ↦ good ] ≡ good
+      go succeeds d = refl
+      go (fails kind) d = absurd (d kind refl)
+      go (arrives y) d = refl
+
+  -- One that fails there fails there first.
+  pub ends-bad : (x : ℕ) (kind : FailureKind) → fate t x 0 ≡ fails kind → atEnds t x ≡ bad 0 kind
+  unfolding endKinds endsFrom
+  ends-bad x kind e = rw (e, endsFrom)

@@ -1,0 +1,44 @@
+-- The memory is new: nothing is known in it yet. What the search finds is the answer.
+use borrow.Author.Needs.{needs}
+use Rattle.lamp_fates.proofs.BlankMemory.{blank-memory}
+use Rattle.plan_check.proofs.CheckRules.{found-right}
+use Rattle.plan_check.proofs.find_middle.Statement.{statement}
+use Rattle.plan_check.proofs.find_middle.Tie as tie
+
+slice-aggregate-search : tie.Need-slice-aggregate-search
+slice-aggregate-search c = search needs
+
+search-requires : tie.Need-search-requires
+search-requires c κs =
+    let b = c .before .before .before .before .before .before .before .before in
+    (record { opened = b .pre .0; remembers = blank-memory _ 8192 (b .pre .2) }, b .pre .1)
+
+answer-requires : tie.Need-answer-requires
+answer-requires c κs = search needs
+
+same-length : tie.Need-same-length
+same-length c = search needs
+
+same-length-2 : tie.Need-same-length-2
+same-length-2 c = search needs
+
+same-length-3 : tie.Need-same-length-3
+same-length-3 c = search needs
+
+returns : tie.Need-returns
+returns c =
+    let f = c .before .before .before .before .before .before .before .before in
+    let b = f .before .before .before .before .before .before .before .before .before in
+    rw (c .answer .ensures) (found-right (b .args .file .now) (b .args .job) (b .pre .0) (f .search .ensures))
+
+pub find-middle-spec : {M : Type 1} → statement M
+find-middle-spec =
+    tie.close
+    (tie.spec
+    slice-aggregate-search
+    search-requires
+    answer-requires
+    same-length
+    same-length-2
+    same-length-3
+    returns)

@@ -1,0 +1,72 @@
+-- At place 0 the label is a start, and its mark decides; elsewhere the list has the pair.
+use borrow.Author.Needs.{needs}
+use mathlib.Core.Path.{sym, ap, _∙_}
+use native.Mathlib.Omega.{arith}
+use Rattle.lamp_line.specs.Tables.{Tables, worldState}
+use Rattle.job_file.proofs.WellFormed.{tables-are, well-formed-by}
+use Rattle.plan_search.proofs.ListLaws.{pairs-few, count-fits}
+use Rattle.plan_search.proofs.Turns.{start-unmarked, start-marked, lamp-begins}
+use Rattle.plan_search.proofs.last_stretch.Statement.{statement}
+use Rattle.plan_search.proofs.last_stretch.Tie as tie
+
+is-start-requires : tie.Need-is-start-requires
+is-start-requires c κs = search needs
+
+returns : tie.Need-returns
+returns c =
+    let i = c .before in
+    let z = i .before .before in
+    let b = z .before .before .before .before in
+    record {
+      so = start-marked (well-formed-by _ _ (b .pre .0)) _ _ _ (z .if1 .taken)
+          (sym (c .if2 .taken) ∙ i .is-start .ensures
+          ∙ ap (λ (t : Tables). t .start (worldState (b .args .label))) (sym (tables-are _ _ (b .pre .0))));
+    }
+
+returns-2 : tie.Need-returns-2
+returns-2 c =
+    let i = c .before in
+    let z = i .before .before in
+    let b = z .before .before .before .before in
+    record {
+      so = start-unmarked (well-formed-by _ _ (b .pre .0)) _ _ _ (z .if1 .taken)
+          (sym (c .if2 .left) ∙ i .is-start .ensures
+          ∙ ap (λ (t : Tables). t .start (worldState (b .args .label))) (sym (tables-are _ _ (b .pre .0))));
+    }
+
+sub-unpack : tie.Need-sub-unpack
+sub-unpack c = search needs
+
+mul-unpack : tie.Need-mul-unpack
+mul-unpack c =
+    let b = c .before .before .before .before in
+    omega (arith, b .pre .2 .within, count-fits (b .pre .1), pairs-few (well-formed-by _ _ (b .pre .0)))
+
+shared-slice-read-unpack : tie.Need-shared-slice-read-unpack
+shared-slice-read-unpack c =
+    let e = c .before in
+    let b = e .before .before .before .before in
+    omega (arith, e .if1 .left, b .pre .2 .within, count-fits (b .pre .1), b .pre .1 .list-room)
+
+unpack-requires : tie.Need-unpack-requires
+unpack-requires c κs = search needs
+
+returns-3 : tie.Need-returns-3
+returns-3 c =
+    let u = c .before .before in
+    let e = u .before .before in
+    let b = e .before .before .before .before in
+    record { so = lamp-begins (b .pre .1) (b .pre .2) (omega (arith, e .if1 .left)) (u .unpack .result) (u .unpack .ensures) }
+
+pub last-stretch-spec : {M : Type 1} → statement M
+last-stretch-spec =
+    tie.close
+    (tie.spec
+    is-start-requires
+    returns
+    returns-2
+    sub-unpack
+    mul-unpack
+    shared-slice-read-unpack
+    unpack-requires
+    returns-3)

@@ -1,0 +1,18 @@
+/*
+ * The benchmark: nanoseconds a call of reader, run and report on both sides; of the check on three, since in C it is made in
+ * two ways; and how the check's time grows with the numbers of a job. The answers of all sides are compared.
+ */
+#include "tables.h"
+
+#include <stdio.h>
+
+int main(void)
+{
+    printf("nanoseconds of processor time a call, the best of several batches, with the sides in turn.\n"
+           "Every call reads and tests the whole file. The buffers of a check are not cleared before a call.\n");
+    print_operations();
+    print_checks();
+    print_growth();
+    print_extremes();
+    return 0;
+}

@@ -1,0 +1,109 @@
+/*
+ * The check beside the two forms that it has in C: one walks each time, the other remembers what walks came to. Which of them
+ * is the quicker one hangs on the job, so the product is held against the better of the two.
+ */
+#include "measure.h"
+#include "tables.h"
+
+#include <inttypes.h>
+#include <stdio.h>
+
+static struct greatest furthest_behind, furthest_ahead;
+
+static uint64_t measure_check(const struct subject *subject, double best[CHECK_SIDES], double *to_better)
+{
+    uint64_t answer = measure(call_check, subject, CHECK_SIDES, best);
+    double better = best[PLAIN] < best[REMEMBERING] ? best[PLAIN] : best[REMEMBERING];
+    *to_better = best[NESSFLURRY] / better;
+    note(&furthest_behind, *to_better, subject);
+    note(&furthest_ahead, best[PLAIN] / best[NESSFLURRY], subject);
+    return answer;
+}
+
+/* ---- Jobs by class ---- */
+
+static const struct {
+    const char *name;
+    enum bench_variant variant;
+} bench[] = {{"bench_g", BENCH_G}, {"bench_failure", BENCH_FIVE_STATES}, {"bench_circle", BENCH_PEEK_FOR_EVER}};
+
+static const struct {
+    const char *class;
+    enum sized_job which;
+    enum size size;
+} sized[] = {
+    {"small domain", JOB_RANDOM, SMALL},       {"small domain", JOB_RANDOM_FAILURE, SMALL},
+    {"lock", JOB_LONG_FAILURE, SMALL},         {"lock", JOB_LONG_FAILURE, MIDDLE},
+    {"lock", JOB_LONG_FAILURE, FULL},          {"over at once", JOB_AT_ONCE, FULL},
+    {"over at once", JOB_FIRST_LAMP, FULL},    {"over at once", JOB_CIRCLE, FULL},
+    {"over soon", JOB_RANDOM_FAILURE, MIDDLE}, {"over soon", JOB_RANDOM_FAILURE, FULL},
+    {"many pairs", JOB_ACCEPTED, SMALL},       {"many pairs", JOB_ACCEPTED, MIDDLE},
+    {"many pairs", JOB_ACCEPTED, FULL},        {"many pairs", JOB_RANDOM, MIDDLE},
+    {"many pairs", JOB_RANDOM, FULL},          {"long walks", JOB_WALK, SMALL},
+    {"long walks", JOB_WALK, MIDDLE},          {"long walks", JOB_WALK, FULL},
+    {"long walks", JOB_WORK, SMALL},           {"long walks", JOB_WORK, MIDDLE},
+    {"long walks", JOB_WORK, FULL},
+};
+
+static void print_check(const char *class, const struct subject *subject)
+{
+    double best[CHECK_SIDES], to_better;
+    uint64_t answer = measure_check(subject, best, &to_better);
+    printf("%-14s%-23s%12.0f%13.3f%9.3f%9.3f", class, subject->name, best[NESSFLURRY], best[NESSFLURRY] / best[REMEMBERING],
+           best[NESSFLURRY] / best[PLAIN], to_better);
+    print_answer(call_check, subject, answer);
+}
+
+void print_checks(void)
+{
+    static struct subject subject;
+    printf("\nthe check, and its ratios to C that remembers, to C that walks, and to the better of the two\n\n");
+    printf("%-14s%-23s%12s%13s%9s%9s\n", "class", "job", "nessflurry", "/ remembers", "/ walks", "/ better");
+    example_subject(&subject);
+    print_check("small domain", &subject);
+    for (size_t i = 0; i < sizeof bench / sizeof *bench; i++) {
+        bench_subject(&subject, bench[i].name, bench[i].variant);
+        print_check("small domain", &subject);
+    }
+    for (size_t i = 0; i < sizeof sized / sizeof *sized; i++) {
+        sized_subject(&subject, sized[i].which, sized[i].size);
+        print_check(sized[i].class, &subject);
+    }
+    steps_subject(&subject);
+    print_check("long walks", &subject);
+}
+
+/* ---- Growth ---- */
+
+static void print_growth_at(enum growing growing, int worlds, int states, int kinds)
+{
+    static struct subject subject;
+    double best[CHECK_SIDES], to_better;
+    growing_subject(&subject, growing, (uint8_t)worlds, (uint8_t)states, (uint8_t)kinds);
+    uint64_t answer = measure_check(&subject, best, &to_better);
+    printf("%-12s%4d%4d%4d%8" PRIu32 "%14.1f%14.1f%14.1f%9.3f\n", growing_names[growing], worlds, states, kinds,
+           nessflurry_count(answer), best[NESSFLURRY] / 1e3, best[REMEMBERING] / 1e3, best[PLAIN] / 1e3, to_better);
+    fflush(stdout);
+}
+
+void print_growth(void)
+{
+    printf("\nhow the check's time grows, in microseconds a call; the ratio is nessflurry / the better of the two in C\n\n");
+    printf("%-12s%4s%4s%4s%8s%14s%14s%14s%9s\n", "jobs with", "W", "S", "C", "pairs", "nessflurry", "C remembers", "C walks",
+           "/ better");
+    for (enum growing growing = LONG_WALKS; growing < GROWING; growing++) {
+        for (int worlds = 8; worlds <= 64; worlds *= 2)
+            print_growth_at(growing, worlds, MOST_STATES, MOST_KINDS);
+        for (int states = 8; states <= 64; states *= 2)
+            print_growth_at(growing, MOST_WORLDS, states, MOST_KINDS);
+        for (int columns = 2; columns <= 16; columns *= 2)
+            print_growth_at(growing, MOST_WORLDS, MOST_STATES, columns - 1);
+    }
+}
+
+void print_extremes(void)
+{
+    printf("\nthe check at its worst takes %.3f times as long as the better of the two in C (%s);\n"
+           "at its best it is %.1f times as fast as C that walks (%s)\n",
+           furthest_behind.figure, furthest_behind.name, furthest_ahead.figure, furthest_ahead.name);
+}

@@ -1,0 +1,122 @@
+#define _DEFAULT_SOURCE
+#include "measure.h"
+
+#include "job_files/arguments.h"
+
+#include <inttypes.h>
+#include <stdio.h>
+#include <stdlib.h>
+#include <time.h>
+
+/* ---- The calls ---- */
+
+/* Lent to the checks of each side. Nobody clears them: a call finds what the last one left. */
+static struct {
+    uint8_t line[LINE_BYTES];
+    uint32_t list[LIST_NUMBERS];
+    uint64_t words[WORDS];
+} lent[CHECK_SIDES];
+
+uint64_t call_reader(int side, const struct subject *subject)
+{
+    uint16_t head[16];
+    return sides[side].read(subject->file.bytes, subject->file.size, head);
+}
+
+uint64_t call_run(int side, const struct subject *subject)
+{
+    const struct file *file = &subject->file;
+    return sides[side].run(file->bytes, file->size, subject->start, subject->line, subject->lamps, UINT32_MAX);
+}
+
+uint64_t call_check(int side, const struct subject *subject)
+{
+    static check_call *const checks[CHECK_SIDES] = {nessflurry_check, plain_check, plain_check_remembering};
+    return checks[side](subject->file.bytes, subject->file.size, lent[side].line, LINE_BYTES, lent[side].list, LIST_NUMBERS,
+                        lent[side].words, WORDS);
+}
+
+uint64_t call_report(int side, const struct subject *subject)
+{
+    return sides[side].report(subject->file.bytes, subject->file.size, subject->job.first, RUN_LAMPS, subject->result);
+}
+
+/* ---- Measuring ---- */
+
+/* Of this process alone, so that others on the machine count less. */
+static double processor_time(void)
+{
+    struct timespec time;
+    clock_gettime(CLOCK_PROCESS_CPUTIME_ID, &time);
+    return 1e9 * (double)time.tv_sec + (double)time.tv_nsec;
+}
+
+/* Nanoseconds a call, over so many calls. */
+static double batch(side_call *call, int side, const struct subject *subject, uint32_t calls)
+{
+    static volatile uint64_t sink; /* so that no call can be left out */
+    double begun = processor_time();
+    for (uint32_t i = 0; i < calls; i++)
+        sink = call(side, subject);
+    (void)sink;
+    return (processor_time() - begun) / calls;
+}
+
+static uint64_t common_answer(side_call *call, const struct subject *subject, int sides_called)
+{
+    uint64_t answer = call(NESSFLURRY, subject);
+    for (int side = PLAIN; side < sides_called; side++) {
+        uint64_t other = call(side, subject);
+        bool lines_equal = memcmp(lent[NESSFLURRY].line, lent[side].line, LINE_BYTES) == 0;
+        if (answer == other && lines_equal && nessflurry_refusal(answer) == 0)
+            continue;
+        printf("%s: not equal, or refused: nessflurry %016" PRIx64 ", side %d %016" PRIx64 "\n", subject->name, answer, side,
+               other);
+        exit(1);
+    }
+    return answer;
+}
+
+/* Many short batches, since some are disturbed, with the sides in turn. A call that takes long is made once. */
+uint64_t measure(side_call *call, const struct subject *subject, int sides_called, double best[])
+{
+    const double enough = 2e6, long_call = 1e8;
+    uint32_t calls[CHECK_SIDES];
+    uint64_t answer = common_answer(call, subject, sides_called);
+    for (int side = 0; side < sides_called; side++)
+        for (calls[side] = 1; (best[side] = batch(call, side, subject, calls[side])) * calls[side] < enough;)
+            calls[side] *= 2;
+    for (int more = 0; more < 40; more++)
+        for (int side = 0; side < sides_called; side++)
+            if (best[side] < long_call) {
+                double again = batch(call, side, subject, calls[side]);
+                best[side] = again < best[side] ? again : best[side];
+            }
+    return answer;
+}
+
+/* ---- Telling ---- */
+
+void print_answer(side_call *call, const struct subject *subject, uint64_t answer)
+{
+    const char *const endings[] = {"goal", "failure 1", "failure 2", "failure 3", "failure 4"};
+    uint32_t count = nessflurry_count(answer);
+    uint8_t code = nessflurry_code(answer);
+    if (call == call_run)
+        printf("  %zu lamps, %" PRIu32 " steps, %s\n", subject->lamps, count, endings[code]);
+    else if (call == call_check && code == NESSFLURRY_GOAL)
+        printf("  accepted, %" PRIu32 " pairs\n", count);
+    else if (call == call_check)
+        printf("  %s after %" PRIu32 " lamps\n", endings[code], count);
+    else
+        printf("  %zu bytes\n", subject->file.size);
+    fflush(stdout);
+}
+
+void note(struct greatest *greatest, double figure, const struct subject *subject)
+{
+    if (figure <= greatest->figure)
+        return;
+    greatest->figure = figure;
+    memcpy(greatest->name, subject->name, NAME_BYTES);
+}

@@ -1,0 +1,85 @@
+#include "subjects.h"
+
+#include "plain.h"
+
+#include <stdio.h>
+
+/* A kind with which the plan passes the lamp into a state that is not final, or 0. Each lamp begins at another kind. */
+static uint8_t kind_that_leads_on(const struct subject *subject, uint8_t *state, uint8_t *world)
+{
+    for (size_t tries = 0; tries < subject->job.kinds; tries++) {
+        uint8_t kind = (uint8_t)(1 + (subject->lamps + tries) % subject->job.kinds);
+        uint64_t answer = plain_walk(subject->file.bytes, subject->file.size, *state, *world, kind);
+        if (nessflurry_code(answer) == NESSFLURRY_ARRIVED && nessflurry_state(answer) != subject->job.states) {
+            *state = nessflurry_state(answer);
+            *world = nessflurry_world(answer);
+            return kind;
+        }
+    }
+    return 0;
+}
+
+/* A line along which the run goes on as far as it can. */
+static void choose_line(struct subject *subject)
+{
+    uint8_t state = subject->job.first, world = subject->start, kind;
+    subject->lamps = 0;
+    while (subject->lamps < RUN_LAMPS && (kind = kind_that_leads_on(subject, &state, &world)) != 0)
+        subject->line[subject->lamps++] = kind;
+}
+
+static void finish_subject(struct subject *subject)
+{
+    struct random no_gaps = {0};
+    write_file(&subject->file, &subject->job, &no_gaps);
+    for (subject->start = 0; !subject->job.starts[subject->start];)
+        subject->start++;
+    for (subject->result = 0; subject->job.target[subject->job.first][subject->result] == NONE;)
+        subject->result++;
+    choose_line(subject);
+}
+
+void bench_subject(struct subject *subject, const char *name, enum bench_variant variant)
+{
+    snprintf(subject->name, NAME_BYTES, "%s", name);
+    bench_line(&subject->job, variant);
+    finish_subject(subject);
+}
+
+void example_subject(struct subject *subject)
+{
+    snprintf(subject->name, NAME_BYTES, "example");
+    example_job(&subject->job);
+    finish_subject(subject);
+}
+
+void sized_subject(struct subject *subject, enum sized_job which, enum size size)
+{
+    snprintf(subject->name, NAME_BYTES, "%s_%s", size_names[size], sized_job_names[which]);
+    sized_job(&subject->job, which, size);
+    finish_subject(subject);
+}
+
+void steps_subject(struct subject *subject)
+{
+    snprintf(subject->name, NAME_BYTES, "steps_600006");
+    steps_job(&subject->job);
+    finish_subject(subject);
+}
+
+const char *const growing_names[GROWING] = {"long walks", "many pairs"};
+
+void growing_subject(struct subject *subject, enum growing growing, uint8_t worlds, uint8_t states, uint8_t kinds)
+{
+    snprintf(subject->name, NAME_BYTES, "%s, W %d, S %d, C %d", growing_names[growing], worlds, states, kinds);
+    memset(subject->job.gap, 0, sizeof subject->job.gap);
+    largest_numbers(&subject->job);
+    subject->job.worlds = worlds;
+    subject->job.states = states;
+    subject->job.kinds = kinds;
+    if (growing == LONG_WALKS)
+        turning_job(&subject->job, 1, UINT32_MAX);
+    else
+        turning_job(&subject->job, states / MOST_RESULTS, 0);
+    finish_subject(subject);
+}

@@ -1,0 +1,30 @@
+/*
+ * What is measured: a job, with what the measured calls are handed.
+ */
+#ifndef OUTSIDE_SUBJECTS_H
+#define OUTSIDE_SUBJECTS_H
+
+#include "job_files/families.h"
+
+enum { RUN_LAMPS = 1000, NAME_BYTES = 40 };
+
+struct subject {
+    char name[NAME_BYTES];
+    struct job job;
+    struct file file;
+    uint8_t start, line[RUN_LAMPS], result;
+    size_t lamps;
+};
+
+/* Each makes the subject anew. */
+void bench_subject(struct subject *subject, const char *name, enum bench_variant variant);
+void example_subject(struct subject *subject);
+void sized_subject(struct subject *subject, enum sized_job which, enum size size);
+void steps_subject(struct subject *subject);
+
+/* Of the largest numbers but these; its walks are long, or it has many pairs. */
+enum growing { LONG_WALKS, MANY_PAIRS, GROWING };
+extern const char *const growing_names[GROWING];
+void growing_subject(struct subject *subject, enum growing growing, uint8_t worlds, uint8_t states, uint8_t kinds);
+
+#endif

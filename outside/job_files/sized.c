@@ -1,0 +1,84 @@
+/*
+ * Jobs by what a check of them costs, in three sizes.
+ */
+#include "families.h"
+
+static const struct {
+    uint8_t actions, worlds, kinds, results, states;
+} numbers[SIZES] = {
+    [SMALL] = {4, 6, 3, 4, 8},
+    [MIDDLE] = {8, 24, 7, 8, 24},
+    [FULL] = {MOST_ACTIONS, MOST_WORLDS, MOST_KINDS, MOST_RESULTS, MOST_STATES},
+};
+
+static void set_numbers(struct job *job, enum size size)
+{
+    job->actions = numbers[size].actions;
+    job->worlds = numbers[size].worlds;
+    job->kinds = numbers[size].kinds;
+    job->results = numbers[size].results;
+    job->states = numbers[size].states;
+}
+
+void largest_numbers(struct job *job) { set_numbers(job, FULL); }
+
+const char *const size_names[SIZES] = {"small", "middle", "max"};
+const char *const sized_job_names[SIZED_JOBS] = {
+    "accepted", "long_failure", "walk", "work", "at_once", "first_lamp", "circle", "random", "random_failure",
+};
+
+/* From seeds with which many pairs are reached, and the failure is not met at once. */
+static void random_tables(struct job *job, enum size size)
+{
+    const uint64_t seeds[SIZES] = {11, 5, 7};
+    struct random random = {seeds[size]};
+    right_job(job, &random);
+    job->starts[0] = 1;
+}
+
+static void make_tables(struct job *job, enum sized_job which, enum size size)
+{
+    const uint8_t movers = job->states / job->results; /* enough for every other state to be the target of one that moves on */
+    const uint32_t none_turn = 0, all_turn = ~none_turn, upper_turn = all_turn << (job->kinds / 2 + 2);
+    switch (which) {
+    case JOB_LONG_FAILURE: counting_job(job, job->states); break;
+    case JOB_CIRCLE:
+    case JOB_WALK: turning_job(job, 1, all_turn); break;
+    case JOB_WORK: turning_job(job, movers, upper_turn); break;
+    case JOB_RANDOM:
+    case JOB_RANDOM_FAILURE: random_tables(job, size); break;
+    default: turning_job(job, movers, none_turn); break;
+    }
+}
+
+/* The change that makes a right plan fail. */
+static void put_failure(struct job *job, enum sized_job which)
+{
+    const uint8_t last_digit = job->states - 2;
+    switch (which) {
+    case JOB_AT_ONCE: job->first = job->states - 1; break; /* it moves on, which is not legal where no lamp is */
+    case JOB_FIRST_LAMP: job->cells[job->action[job->first]][0][1] = (struct cell){0, NONE}; break;
+    case JOB_CIRCLE: job->target[last_digit][1] = 0; break; /* the counter begins anew, and no lamp is passed */
+    case JOB_RANDOM_FAILURE: job->goal[job->worlds - 1][0] = 0; break;
+    default: break;
+    }
+}
+
+void sized_job(struct job *job, enum sized_job which, enum size size)
+{
+    memset(job->gap, 0, sizeof job->gap);
+    set_numbers(job, size);
+    make_tables(job, which, size);
+    put_failure(job, which);
+}
+
+/* 46 pairs are reached, and from each of them a walk at a lamp of any of 8 kinds has some 1,630 steps. */
+void steps_job(struct job *job)
+{
+    memset(job->gap, 0, sizeof job->gap);
+    largest_numbers(job);
+    job->worlds = 38;
+    job->states = 45;
+    job->kinds = 8;
+    turning_job(job, 1, UINT32_MAX);
+}

@@ -1,0 +1,295 @@
+/*
+ * The check of the plain implementation (01, The check), in two forms that make the same search. They differ in how they
+ * find out what a pair comes to at a column: plain_check walks each time, and does no more than document 01 says;
+ * plain_check_remembering keeps what walks came to, so that no step is made twice. The benchmark holds the product against
+ * both, so both are as quick as their way allows.
+ */
+#include "plain.h"
+#include "plain_job.h"
+
+#include <string.h>
+
+/* The search is compiled into each form anew, and with it how a fate is found, so that neither form pays for the other. */
+#define EACH_FORM static inline __attribute__((always_inline))
+
+enum { MOST_COLUMNS = 16, MOST_STATES = 64, MOST_WORLDS = 64 }; /* 01, Job file: of C + 1, S and W */
+
+/* ---- Pairs as numbers ---- */
+
+/* In 13 bits. */
+static unsigned packed(struct pair pair)
+{
+    return pair.state.number * MOST_WORLDS + pair.world.number;
+}
+
+static struct pair unpacked(unsigned number)
+{
+    return (struct pair){{number / MOST_WORLDS}, {number % MOST_WORLDS}};
+}
+
+/* Without gaps: pairs that are not final come first, S·W of them. */
+static unsigned number_of(const struct job *job, struct pair pair)
+{
+    return pair.state.number * job->worlds + pair.world.number;
+}
+
+static unsigned unfinished_count(const struct job *job)
+{
+    return job->final.number * job->worlds;
+}
+
+static unsigned pair_count(const struct job *job)
+{
+    return unfinished_count(job) + job->worlds;
+}
+
+static unsigned word_count(const struct job *job)
+{
+    return (pair_count(job) + 63) / 64;
+}
+
+/* ---- The search's list and words ---- */
+
+/*
+ * The pairs reached: the working list has them in the order of arrival, the words have one bit for each. An entry of
+ * the list is a pair (13 bits), the place in the list of the pair it was arrived at from (13 bits) and the kind of the
+ * lamp passed in between (4 bits), which is 0 for a pair at the beginning.
+ */
+struct search {
+    struct job job;
+    uint32_t *list;
+    uint64_t *words;
+    uint32_t reached;
+    struct memory *memory; /* of the form that remembers */
+};
+
+static uint32_t entry_of(struct pair pair, uint32_t from, unsigned kind)
+{
+    return packed(pair) | from << 13 | (uint32_t)kind << 26;
+}
+
+static struct pair pair_in(uint32_t entry)
+{
+    return unpacked(entry & 0x1fff);
+}
+
+static uint32_t from_in(uint32_t entry)
+{
+    return entry >> 13 & 0x1fff;
+}
+
+static unsigned kind_in(uint32_t entry)
+{
+    return entry >> 26;
+}
+
+/* ---- What a pair comes to at a column ---- */
+
+/* Its fate as a number: below GOES the code of an ending, from there on the pair with which the walk arrives at what follows. */
+enum { GOES = 8, UNKNOWN = 0xffff };
+
+static unsigned gone_to(struct pair pair)
+{
+    return GOES + packed(pair);
+}
+
+/* How a form finds a fate. */
+typedef unsigned finder(struct search *search, struct pair pair, unsigned column);
+
+EACH_FORM unsigned walked_fate(struct search *search, struct pair pair, unsigned column)
+{
+    const struct walked end = walk(&search->job, pair, column);
+    return end.code == NESSFLURRY_ARRIVED ? gone_to(end.arrived) : end.code;
+}
+
+/*
+ * What the form that remembers keeps: by column, the fates of the pairs that are not final, UNKNOWN until a walk comes by;
+ * and those of them that are on the present walk's way.
+ */
+struct memory {
+    uint16_t fates[MOST_COLUMNS * MOST_STATES * MOST_WORLDS];
+    uint16_t way[MOST_STATES * MOST_WORLDS];
+};
+
+/* Only what the job needs is made ready: a small job does not pay for a large one's memory. */
+static void make_ready(struct memory *memory, const struct job *job)
+{
+    memset(memory->fates, 0xff, job->columns * unfinished_count(job) * sizeof *memory->fates);
+}
+
+/* The fate of a pair whose action comes to this; UNKNOWN where the walk goes on from another that is not final. */
+EACH_FORM unsigned fate_after(const struct job *job, struct outcome next, unsigned column)
+{
+    if (next.code == NESSFLURRY_ARRIVED)
+        return gone_to(next.pair);
+    if (next.code != STAYS)
+        return next.code;
+    return next.pair.state.number == job->final.number ? judged(job, next.pair.world, column) : UNKNOWN;
+}
+
+/*
+ * The walk goes on to the first pair whose fate is known or follows from its action; all pairs on the way have that fate
+ * then. Until it is found they are said to circle: a walk that comes to one of them again does.
+ */
+EACH_FORM unsigned remembered_fate(struct search *search, struct pair at, unsigned column)
+{
+    const struct job *const job = &search->job;
+    uint16_t *const fates = search->memory->fates + column * unfinished_count(job), *const way = search->memory->way;
+    if (at.state.number == job->final.number)
+        return judged(job, at.world, column);
+    unsigned number = number_of(job, at), steps = 0, fate;
+    while ((fate = fates[number]) == UNKNOWN) {
+        const struct outcome next = act(job, at, column);
+        fate = fate_after(job, next, column);
+        if (fate != UNKNOWN) {
+            fates[number] = (uint16_t)fate;
+            break;
+        }
+        way[steps++] = (uint16_t)number;
+        fates[number] = NESSFLURRY_CIRCLES;
+        at = next.pair;
+        number = number_of(job, at);
+    }
+    while (steps > 0)
+        fates[way[--steps]] = (uint16_t)fate;
+    return fate;
+}
+
+/* ---- The search ---- */
+
+/*
+ * A line comes with this pair to its end, or to a further lamp. The first time the pair is kept, and the line that ends
+ * here is judged: Goal or its failure. A later line that ends with the same pair ends in the same way, and the first
+ * one did not fail.
+ */
+EACH_FORM unsigned arrive(struct search *search, finder *fate_of, struct pair pair, uint32_t from, unsigned kind)
+{
+    const unsigned number = number_of(&search->job, pair);
+    const uint64_t bit = (uint64_t)1 << number % 64;
+    if (search->words[number / 64] & bit)
+        return NESSFLURRY_GOAL;
+    search->words[number / 64] |= bit;
+    search->list[search->reached++] = entry_of(pair, from, kind);
+    return fate_of(search, pair, END_COLUMN);
+}
+
+/* The line to the pair at this place with one lamp of this kind behind it, and its end there: Goal or its failure. */
+EACH_FORM unsigned lengthen(struct search *search, finder *fate_of, struct pair pair, uint32_t place, unsigned kind)
+{
+    const unsigned fate = fate_of(search, pair, kind);
+    return fate < GOES ? fate : arrive(search, fate_of, unpacked(fate - GOES), place, kind);
+}
+
+/* How many lamps are passed on the way from a start to this place of the list. */
+static uint32_t lamps_before(const uint32_t *list, uint32_t place)
+{
+    uint32_t lamps = 0;
+    for (; kind_in(list[place]) != 0; place = from_in(list[place]))
+        lamps++;
+    return lamps;
+}
+
+/*
+ * The failing answer for the line to this place with one lamp of this kind behind it. The line is written from its last
+ * lamp to its first, and then the place is that of its start. It fits: on the way each pair is left by moving on, so it
+ * is non-final, and none comes twice; so at most S·W lamps are before the last one.
+ */
+static uint64_t failed_line(const uint32_t *list, unsigned failure, uint32_t place, unsigned kind, uint8_t *line)
+{
+    const uint32_t lamps = lamps_before(list, place) + 1;
+    line[lamps - 1] = (uint8_t)kind;
+    for (uint32_t left = lamps - 1; left > 0; left--) {
+        line[left - 1] = (uint8_t)kind_in(list[place]);
+        place = from_in(list[place]);
+    }
+    return answered(failure, pair_in(list[place]).world.number, 0, lamps);
+}
+
+/*
+ * The first failure met is that of the least failing line: fewest lamps, then lowest start, then lower kind at the
+ * first lamp where two differ.
+ *
+ * A walk depends on its pair and its column alone. So where a run fails before its line's last lamp, the line up to the
+ * lamp of the failure is shorter and fails as well: a shortest failing line fails at its last lamp or at its end.
+ *
+ * A line of n + 1 lamps is a line of n lamps and a kind. Where its run comes to the last lamp at all, with a pair,
+ * `lengthen` judges it from that pair and kind: by the walk at the last lamp if that ends there, and otherwise by the
+ * walk at the end. A failure at the end is found as soon as the pair is arrived at, since that line has as many lamps
+ * as one that fails at its last lamp, and only start and kinds may decide between the two. Where a run ends before the
+ * last lamp, its line reaches Goal, or a shorter one has failed.
+ *
+ * When two lines get the same lamps behind them, the one that is earlier in the order stays the earlier. So among the
+ * lines that arrive with one pair the first speaks for all: whatever lamps follow, another fails with them exactly if
+ * the first does, and then it is later in the order. This is why a pair is kept once, when it is first arrived at.
+ *
+ * The list has the pairs in the order of these first lines: the starts, ascending, have no lamps; and the pairs of n
+ * lamps, taken in their order, with the kinds ascending for each, give the lines of n + 1 lamps in theirs, all of them
+ * before any of n + 2.
+ *
+ * When no line fails, the list has each pair that some line reaches, once, as the words have one bit for it: their sum
+ * is the length of the list.
+ *
+ * The search is handed over by value, so that no other pointer can lead to its numbers, and they may stay in registers.
+ */
+EACH_FORM uint64_t search_lines(struct search search, finder *fate_of, uint8_t *line)
+{
+    const struct job *const job = &search.job;
+    memset(search.words, 0, word_count(job) * sizeof *search.words);
+    for (world_state start = {0}; start.number < job->worlds; start.number++) {
+        if (job->starts[start.number] != 1)
+            continue;
+        const unsigned failure = arrive(&search, fate_of, (struct pair){job->first, start}, 0, 0);
+        if (failure != NESSFLURRY_GOAL)
+            return answered(failure, start.number, 0, 0);
+    }
+    for (uint32_t place = 0; place < search.reached; place++) {
+        const struct pair pair = pair_in(search.list[place]);
+        for (unsigned kind = 1; kind < job->columns; kind++) {
+            const unsigned failure = lengthen(&search, fate_of, pair, place, kind);
+            if (failure != NESSFLURRY_GOAL)
+                return failed_line(search.list, failure, place, kind, line);
+        }
+    }
+    return answered(NESSFLURRY_GOAL, 0, 0, search.reached);
+}
+
+/* ---- The two forms ---- */
+
+/* 01, Who can cause which number: 12 and 13. */
+static unsigned buffer_refusal(const struct job *job, size_t line_size, size_t list_size, size_t words_size)
+{
+    if (line_size < unfinished_count(job) + 1)
+        return 12;
+    if (list_size < pair_count(job) || words_size < word_count(job))
+        return 13;
+    return 0;
+}
+
+static unsigned check_refusal(const uint8_t *file, size_t file_size, size_t line_size, size_t list_size, size_t words_size,
+                              struct job *job)
+{
+    const unsigned refusal = read_job(file, file_size, job);
+    return refusal != 0 ? refusal : buffer_refusal(job, line_size, list_size, words_size);
+}
+
+uint64_t plain_check(const uint8_t *file, size_t file_size, uint8_t *line, size_t line_size, uint32_t *list, size_t list_size,
+                     uint64_t *words, size_t words_size)
+{
+    struct job job;
+    const unsigned refusal = check_refusal(file, file_size, line_size, list_size, words_size, &job);
+    if (refusal != 0)
+        return refused(refusal);
+    return search_lines((struct search){.job = job, .list = list, .words = words}, walked_fate, line);
+}
+
+uint64_t plain_check_remembering(const uint8_t *file, size_t file_size, uint8_t *line, size_t line_size, uint32_t *list,
+                                 size_t list_size, uint64_t *words, size_t words_size)
+{
+    struct job job;
+    struct memory memory;
+    const unsigned refusal = check_refusal(file, file_size, line_size, list_size, words_size, &job);
+    if (refusal != 0)
+        return refused(refusal);
+    make_ready(&memory, &job);
+    return search_lines((struct search){.job = job, .list = list, .words = words, .memory = &memory}, remembered_fate, line);
+}

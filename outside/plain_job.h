@@ -1,0 +1,132 @@
+/*
+ * What the files of the plain implementation share: a job's numbers and the places in its tables, one action, and the walk
+ * at one lamp, all of it to be compiled into the loops that use it.
+ *
+ * "01" in the comments is document 01, followed by the title of the section that is rendered.
+ */
+#ifndef PLAIN_JOB_H
+#define PLAIN_JOB_H
+
+#include "nessflurry.h"
+
+#include <stdbool.h>
+
+enum {
+    NONE = 255,    /* 01, Job file: as a result not legal, as a target no branch */
+    END_COLUMN = 0 /* 01, The line and its tables: the column when no lamp is left */
+};
+
+/* 01, The line and its tables: two sorts of number, and neither may pass for the other. */
+typedef struct { unsigned number; } program_state;
+typedef struct { unsigned number; } world_state;
+
+struct pair {
+    program_state state;
+    world_state world;
+};
+
+/* The numbers of a job, and its five parts, which stay in the file's bytes. */
+struct job {
+    unsigned actions, worlds, columns, results;   /* A, W, C + 1 and R */
+    program_state first, final;                   /* final is S; the states before it are the S non-final ones */
+    size_t action_bytes, world_bytes, row_bytes;  /* the cells of one action, those of one of its worlds, a plan row */
+    const uint8_t *marks, *cells, *starts, *goal, *plan;
+};
+
+/* ---- Answers (nessflurry.h) ---- */
+
+static inline uint64_t answered(unsigned code, unsigned state, unsigned world, uint32_t count)
+{
+    return (uint64_t)code << 8 | (uint64_t)state << 16 | (uint64_t)world << 24 | (uint64_t)count << 32;
+}
+
+static inline uint64_t refused(unsigned refusal)
+{
+    return refusal;
+}
+
+/* ---- Places in the tables (01, Job file, parts 2, 4 and 5) ---- */
+
+/* 2·((a·W + w)·(C+1) + c), multiplied out. */
+static inline const uint8_t *cell_of(const struct job *job, unsigned action, world_state world, unsigned column)
+{
+    return job->cells + action * job->action_bytes + world.number * job->world_bytes + 2 * column;
+}
+
+static inline bool goal_holds(const struct job *job, world_state world, unsigned column)
+{
+    return job->goal[world.number * job->columns + column] == 1;
+}
+
+/* The plan's row of a non-final state: its action, then a target for each result. */
+static inline const uint8_t *row_of(const struct job *job, program_state state)
+{
+    return job->plan + state.number * job->row_bytes;
+}
+
+/* ---- The reader (01, Job file; Who can cause which number, 1 to 11) ---- */
+
+/* The job of a file, or the number of its refusal. */
+unsigned read_job(const uint8_t *file, size_t file_size, struct job *job);
+
+/* ---- One action, and the walk at one lamp or at the line's end (01, One run) ---- */
+
+/* What an action comes to: failure 1 or 2; or a step to a pair, which arrives at what follows, or STAYS. */
+enum { STAYS = 8 }; /* beside the codes of nessflurry.h */
+struct outcome {
+    unsigned code;
+    struct pair pair;
+};
+
+/* The action's cell, the targets of its plan row, and whether it moves on. */
+static inline struct outcome outcome_of(const uint8_t *cell, const uint8_t *targets, bool moves_on)
+{
+    const size_t result = cell[1];
+    if (result == NONE)
+        return (struct outcome){.code = NESSFLURRY_NOT_LEGAL};
+    const unsigned target = targets[result];
+    if (target == NONE)
+        return (struct outcome){.code = NESSFLURRY_NO_BRANCH};
+    return (struct outcome){moves_on ? NESSFLURRY_ARRIVED : STAYS, {{target}, {cell[0]}}};
+}
+
+static inline struct outcome act(const struct job *job, struct pair at, unsigned column)
+{
+    const uint8_t *const row = row_of(job, at.state);
+    return outcome_of(cell_of(job, row[0], at.world, column), row + 1, job->marks[row[0]] == 1);
+}
+
+/* How a run ends in the final state. */
+static inline unsigned judged(const struct job *job, world_state world, unsigned column)
+{
+    return goal_holds(job, world, column) ? NESSFLURRY_GOAL : NESSFLURRY_GOAL_FALSE;
+}
+
+/* The end of a walk: its code, the steps counted in this column and, where it arrived at what follows, with which pair. */
+struct walked {
+    unsigned code, steps;
+    struct pair arrived;
+};
+
+/*
+ * The repetition of 01, One run, until the run ends or the line has one lamp fewer. The tests stand in the order given
+ * there: failure 3 just after the final state.
+ */
+static inline struct walked walk(const struct job *job, struct pair at, unsigned column)
+{
+    const unsigned most_steps = job->final.number * job->worlds;
+    for (unsigned steps = 0;; steps++) {
+        if (at.state.number == job->final.number)
+            return (struct walked){.code = judged(job, at.world, column), .steps = steps};
+        if (steps == most_steps)
+            return (struct walked){.code = NESSFLURRY_CIRCLES, .steps = steps};
+        const struct outcome next = act(job, at, column);
+        if (next.code == NESSFLURRY_ARRIVED)
+            return (struct walked){NESSFLURRY_ARRIVED, steps + 1, next.pair};
+        if (next.code != STAYS)
+            return (struct walked){.code = next.code, .steps = steps};
+        at = next.pair;
+    }
+}
+
+#endif

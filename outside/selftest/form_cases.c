@@ -1,0 +1,48 @@
+/*
+ * The two forms of the check against each other, on jobs for which the lines are too many to be tried one by one: whatever
+ * is checked is checked in both forms.
+ */
+#include "cases.h"
+#include "job_files/families.h"
+
+enum { RANDOM_JOBS = 4000, SEED = 20051 };
+
+static uint64_t check_sized(enum sized_job which, enum size size)
+{
+    sized_job(&job, which, size);
+    write_job();
+    return check();
+}
+
+/* Where the answer can be seen from the job, it is demanded too. */
+static void sized_jobs(enum size size)
+{
+    expect("a failure on the empty line", check_sized(JOB_AT_ONCE, size), failing(NESSFLURRY_NOT_LEGAL, 0, 0));
+    expect("a failure at the first lamp", check_sized(JOB_FIRST_LAMP, size), failing(NESSFLURRY_NOT_LEGAL, 0, 1));
+    expect("a circle at the first lamp", check_sized(JOB_CIRCLE, size), failing(NESSFLURRY_CIRCLES, 0, 1));
+    expect("a failure over random tables", nessflurry_code(check_sized(JOB_RANDOM_FAILURE, size)), NESSFLURRY_GOAL_FALSE);
+    expect("a long failing line", nessflurry_code(check_sized(JOB_LONG_FAILURE, size)), NESSFLURRY_GOAL_FALSE);
+    const enum sized_job accepted[] = {JOB_ACCEPTED, JOB_WALK, JOB_WORK, JOB_RANDOM};
+    for (size_t i = 0; i < sizeof accepted / sizeof *accepted; i++)
+        expect("an accepted job", nessflurry_code(check_sized(accepted[i], size)), NESSFLURRY_GOAL);
+}
+
+/* Jobs of all families, some of which circle. */
+static void random_jobs(void)
+{
+    struct random random = {SEED};
+    unsigned circles = 0;
+    for (unsigned count = 0; count < RANDOM_JOBS; count++) {
+        random_job(&job, &random);
+        write_job();
+        circles += nessflurry_code(check()) == NESSFLURRY_CIRCLES;
+    }
+    expect("random jobs that circle", circles >= RANDOM_JOBS / 100, true);
+}
+
+void form_cases(void)
+{
+    for (enum size size = SMALL; size < SIZES; size++)
+        sized_jobs(size);
+    random_jobs();
+}
