@@ -1,21 +1,34 @@
 -- Demand 3, the cabinet: along the execution of an accepted plan every list of calls that reports its results is answered as it
 -- is owed. This is so at the execution's end, and before a step if it is so after it; so it is along a whole execution.
-use mathlib.Core.Path.{_≡_, refl}
+use mathlib.Core.Path.{_≡_, refl, ap, _∙_}
+use mathlib.Core.Option.{Option, none, some}
 use mathlib.Core.List.{List, [], _∷_, _++_, map, append-nil, append-assoc}
 use Prim.Native.Nat.{ℕ}
+use native.Mathlib.Omega.{arith}
 use Rattle.plans.specs.Plan.{Result}
 use Rattle.plans.specs.Execution.{Label, did, actionOf, resultOf, T*, here, join, step, Correct}
 use Rattle.lamp_line.specs.declared.ProgramState.{ProgramState}
 use Rattle.lamp_line.specs.declared.Cabinet.{Cabinet}
 use Rattle.lamp_line.specs.Tables.{Tables, Situation, WellFormed, final, lampTheory, planOf}
 use Rattle.lamp_line.specs.Check.{situation}
-use Rattle.lamp_line.specs.Cabinet.{Call, ask, report, act, ended, taken, reply, replies, left}
+use Rattle.lamp_line.specs.Refusals.{refusal}
+use Rattle.lamp_line.specs.Cabinet.{Call, ask, report, act, ended, taken, fed, replyUnless, reportRules, reply, replies, left}
 use Rattle.lamp_line.specs.Cabinet.{Refuses, Reports, all-reported, asked, besides, reported}
 use Rattle.lamp_line.specs.Cabinet.{Owed, no-more, next-action, after-last, old-state, step-taken}
 use Rattle.lamp_line.specs.Promises.{CabinetServes}
 use Rattle.cabinet_laws.proofs.Replies.{asked-ended}
 use Rattle.cabinet_laws.specs.Places.{machineAt, Place}
 use Rattle.cabinet_laws.proofs.Following.{begins-at-place, place-kept, step-asked, step-reported}
+
+-- A report that is taken leads to the state of the definition.
+taken-is :
+    (t : Tables) (m : Cabinet) (r : Result) (m′ : Cabinet) → reply t m (report r) ≡ taken m′ → m′ ≡ fed t m (t .target (m .state) r)
+unfolding reply
+taken-is t m r m′ = by (refusal (reportRules t m r))
+  where
+    by : (o : Option ℕ) → replyUnless t o m (taken (fed t m (t .target (m .state) r))) ≡ taken m′ → m′ ≡ fed t m (t .target (m .state) r)
+    by none e = cc
+    by (some number) e = absurd (let z : _≡_ {A = ℕ} 0 1 = cc in omega arith)
 
 module _ (t : Tables) where
   -- Calls to the machine m while the execution has the steps ls to make: they are answered as owed, and leave the machine n.
@@ -53,9 +66,11 @@ module _ (t : Tables) where
       record { owed = rw e (next-action (k .owed)); leaves = rw e (k .leaves) }
   serves-step (did a r) e f later (report r′ ∷ calls) (besides x h) =
       answered-besides x (serves-step (did a r) e f later calls h)
-  serves-step (did a r) e f later (report r′ ∷ calls) (reported h) =
+  serves-step (did a r) {ls} {m} {m′} {n} e f later (report r′ ∷ calls) (reported h) =
+      let is = taken-is t m r m′ f in
       let k = later calls (rw f at h) in
-      record { owed = rw f (step-taken (k .owed)); leaves = rw f (k .leaves) }
+      let g : reply t m (report r) ≡ taken (fed t m (t .target (m .state) r)) = f ∙ ap taken is in
+      record { owed = rw g (step-taken (rw is at (k .owed))); leaves = rw f (k .leaves) }
 
   module _ (wf : WellFormed t) where
     -- An execution before steps that are served.

@@ -21,17 +21,26 @@ use Rattle.job_file.specs.Reading.{readingOf, Opened}
 use Rattle.job_tables.proofs.Ranges.{well-formed}
 use Rattle.line_run.specs.RunAnswers.{lineOf}
 
+-- The file is not refused, and this is the right answer.
+pub record Judged (s : List ℕ) (v : Verdict) : Type 0 where
+  pub opened : Opened s (head s)
+  pub right : Right (tablesOf s) v
+
 -- What the search as a definition says of a file that is not refused is right.
-verdict-of : (s : List ℕ) (v : Verdict) → Opened s (head s) → verdictOf (tablesOf s) ≡ v → Right (tablesOf s) v
-verdict-of s v opened e = subst (Right (tablesOf s)) e (verdict-right (tablesOf s) (well-formed s (head s) opened))
+verdict-of : (s : List ℕ) (v : Verdict) → Opened s (head s) → verdictOf (tablesOf s) ≡ v → Judged s v
+verdict-of s v opened e =
+    record {
+      opened = opened;
+      right = subst (Right (tablesOf s)) e (verdict-right (tablesOf s) (well-formed s (head s) opened));
+    }
 
 -- From start 0 the plan of the file fails so, first of all on these lamps.
 abbrev FailsOn : List ℕ → FailureKind → List ℕ → Type 0
-FailsOn s kind lamps = Right (tablesOf s) (failed kind (worldState 0) (lineOf lamps))
+FailsOn s kind lamps = Judged s (failed kind (worldState 0) (lineOf lamps))
 
 pub record BenchLine : Type 0 where
   pub runs : BenchRuns
-  pub accepted-one : Right (tablesOf G) (accepted 1)
+  pub accepted-one : Judged G (accepted 1)
   pub unflagged : FailsOn G-unflagged GoalFalse (2 ∷ [])
   pub circling : FailsOn G-circling Circles (1 ∷ [])
   pub without-branch : FailsOn G-no-branch NoBranch []

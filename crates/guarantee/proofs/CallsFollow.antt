@@ -1,5 +1,5 @@
 -- The operations on a file that is not refused answer a list of calls as the machine does.
-use mathlib.Core.Path.{_≡_, refl, sym, ap, subst, _∙_}
+use mathlib.Core.Path.{_≡_, refl, sym, ap, _∙_}
 use mathlib.Core.Bool.{Bool, true, false, cond}
 use mathlib.Core.Option.{Option, none, some}
 use mathlib.Core.List.{List, [], _∷_}
@@ -8,7 +8,7 @@ use Rattle.plans.specs.Execution.{Label}
 use Rattle.lamp_line.specs.declared.Cabinet.{Cabinet}
 use Rattle.lamp_line.specs.Tables.{Tables}
 use Rattle.lamp_line.specs.Refusals.{refusal}
-use Rattle.lamp_line.specs.Cabinet.{Call, ask, report, Reply, act, ended, taken, refused, stateAfter, replyUnless, askRules, reply, replies, left, Owed}
+use Rattle.lamp_line.specs.Cabinet.{Call, ask, report, Reply, act, ended, taken, refused, stateAfter, fed, replyUnless, askRules, reply, replies, left, Owed}
 use Rattle.lamp_line.specs.Cabinet as machine
 use Rattle.job_layout.specs.declared.Job.{Job}
 use Rattle.job_layout.specs.JobTables.{tablesOf}
@@ -17,7 +17,7 @@ use Rattle.cabinet.specs.declared.ActionAnswer.the-variants as asked
 use Rattle.cabinet.specs.declared.ReportAnswer.the-variants as reported
 use Rattle.cabinet.specs.CabinetAnswers.{actionOf, reportOf, actionAnswer, reportAnswer}
 use Rattle.cabinet.proofs.CabinetRules.{action-opened, report-opened}
-use Rattle.guarantee.specs.CallsOnFiles.{Answer, to-ask, to-report, answerTo, handedOn, answersTo, leftBy, OwedAnswers}
+use Rattle.guarantee.specs.CallsOnFiles.{to-report, answerTo, handedOn, answersTo, leftBy, OwedAnswers}
 use Rattle.guarantee.specs.CallsOnFiles as owed
 
 -- A call for the action leaves the state as it is.
@@ -80,7 +80,8 @@ module _ (s : List ℕ) (j : Job) (opened : Opened s j) where
       let (here, rest) = first-reply m (report r) calls (refused number m) answers e in
       let answer : reportAnswer s m r ≡ reported.Refused number m = report-opened s j opened m r ∙ ap (reportOf m) here in
       rw answer (owed.old-state x (owed-follows o rest))
-  owed-follows (machine.step-taken {m = m} {m′ = m′} {r = r} {calls = calls} {answers = answers} o) e =
+  owed-follows (machine.step-taken {m = m} {r = r} {calls = calls} {answers = answers} o) e =
+      let m′ = fed (tablesOf s) m (tablesOf s .target (m .state) r) in
       let (here, rest) = first-reply m (report r) calls (taken m′) answers e in
       let answer : reportAnswer s m r ≡ reported.Taken m′ = report-opened s j opened m r ∙ ap (reportOf m) here in
       rw answer (owed.step-taken (owed-follows o rest))

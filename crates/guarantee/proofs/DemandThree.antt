@@ -3,7 +3,7 @@
 use mathlib.Core.Path.{_≡_, refl, _∙_}
 use mathlib.Core.Option.{Option, none, some}
 use mathlib.Core.List.{List, map, _++_}
-use Prim.Native.Nat.{ℕ, _+_, _≤_}
+use Prim.Native.Nat.{ℕ, _≤_}
 use native.Mathlib.Omega.{arith}
 use lib.ListN.{length, take}
 use Rattle.plans.specs.Execution.{Label, resultOf, Correct}
@@ -46,7 +46,7 @@ use Rattle.guarantee.proofs.CallsFollow.{left-follows, owed-follows}
 -- ---- what an answer of the check says
 
 -- A check that is not refused is one of a file that is not refused.
-opened-by : (s : List ℕ) (more : List Rule) → refusal (fileRules s ++ more) ≡ none → Opened s (head s)
+pub opened-by : (s : List ℕ) (more : List Rule) → refusal (fileRules s ++ more) ≡ none → Opened s (head s)
 unfolding readingOf answerBy
 opened-by s more e = by (refusal (fileRules s)) refl
   where

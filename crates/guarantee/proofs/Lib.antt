@@ -1,3 +1,4 @@
 pub mod Bench
 pub mod CallsFollow
+pub mod CheckDecides
 pub mod DemandThree

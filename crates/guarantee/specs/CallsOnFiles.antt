@@ -6,7 +6,7 @@ use Rattle.plans.specs.Plan.{Action, Result}
 use Rattle.plans.specs.Execution.{Label, did}
 use Rattle.lamp_line.specs.declared.Cabinet.{Cabinet}
 use Rattle.lamp_line.specs.Tables.{Tables}
-use Rattle.lamp_line.specs.Cabinet.{Call, ask, report, Refuses}
+use Rattle.lamp_line.specs.Cabinet.{Call, ask, report, fed, Refuses}
 use Rattle.cabinet.specs.declared.ActionAnswer.{ActionAnswer}
 use Rattle.cabinet.specs.declared.ActionAnswer.the-variants as asked
 use Rattle.cabinet.specs.declared.ReportAnswer.{ReportAnswer}
@@ -55,6 +55,6 @@ module _ (t : Tables) where
         Refuses t m r number → OwedAnswers m ls calls answers →
         OwedAnswers m ls (report r ∷ calls) (to-report (reported.Refused number m) ∷ answers)
     step-taken :
-        {m m′ : Cabinet} {a : Action} {r : Result} {ls : List Label} {calls : List Call} {answers : List Answer} →
-        OwedAnswers m′ ls calls answers →
-        OwedAnswers m (did a r ∷ ls) (report r ∷ calls) (to-report (reported.Taken m′) ∷ answers)
+        {m : Cabinet} {a : Action} {r : Result} {ls : List Label} {calls : List Call} {answers : List Answer} →
+        OwedAnswers (fed t m (t .target (m .state) r)) ls calls answers →
+        OwedAnswers m (did a r ∷ ls) (report r ∷ calls) (to-report (reported.Taken (fed t m (t .target (m .state) r))) ∷ answers)

@@ -1,1 +1,2 @@
 pub mod CallsOnFiles
+pub mod CheckPromises

@@ -106,5 +106,6 @@ module _ (t : Tables) where
         {m : Cabinet} {r : Result} {number : ℕ} {ls : List Label} {calls : List Call} {answers : List Reply} →
         Refuses m r number → Owed m ls calls answers → Owed m ls (report r ∷ calls) (refused number m ∷ answers)
     step-taken :
-        {m m′ : Cabinet} {a : Action} {r : Result} {ls : List Label} {calls : List Call} {answers : List Reply} →
-        Owed m′ ls calls answers → Owed m (did a r ∷ ls) (report r ∷ calls) (taken m′ ∷ answers)
+        {m : Cabinet} {a : Action} {r : Result} {ls : List Label} {calls : List Call} {answers : List Reply} →
+        Owed (fed m (t .target (m .state) r)) ls calls answers →
+        Owed m (did a r ∷ ls) (report r ∷ calls) (taken (fed m (t .target (m .state) r)) ∷ answers)
