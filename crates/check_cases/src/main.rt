@@ -689,7 +689,14 @@ fn full_size() {
     let mut line = [7u8; 4097];
     let mut list = [9u32; 4160];
     let mut words = [0u64; 65];
-    check(b"full size, long walks", &file[..size], &mut line, &mut list, &mut words, 0);
+    check(
+        b"full size, long walks",
+        &file[..size],
+        &mut line,
+        &mut list,
+        &mut words,
+        0,
+    );
 }
 
 // The comparison with the plain search.
