@@ -1,22 +1,43 @@
 /*
- * The operations of Nessflurry for C and for every language that can call C: reader, one-lamp walk, run, check, and the cabinet's
- * begin, action and report. `rt staticlib nessflurry_c` builds the library, target/staticlib/libnessflurry_c.a.
+ * Nessflurry for C and C++: a proved checker for the plans of street lamp cabinets, and the stepper that runs inside a cabinet.
+ * The library is for x86-64 Linux; this header is for C99 or later and C++11 or later.
  *
- * A job file, a line and a buffer are each handed in as a pointer and the number of elements behind it. A pointer to no elements may
- * be anything but NULL. No function keeps a pointer, allocates memory, or reads or writes anything but what it was lent; what is lent
- * to be written must not overlap anything else that is lent. Any content, any size and any number is answered, and no call is made
- * wrong by its values.
+ * Build the library with `rt staticlib nessflurry_c`, then compile and link against it:
  *
- * Each function answers one 64-bit number, taken apart by the functions at the end of this file:
+ *     cc -Iinclude program.c target/staticlib/libnessflurry_c.a
  *
- *     bits  0 to  7   refusal   the number of the refusal, 1 to 19, or 0 where the call is not refused
- *     bits  8 to 15   code      how it ends: one of the codes below
- *     bits 16 to 23   state     a program state, a start or an action
- *     bits 24 to 31   world     a world state
- *     bits 32 to 63   count     steps, pairs or lamps
+ * Each operation returns its answer as one 64-bit number. Test its code first: NESSFLURRY_REFUSED means that the call did nothing,
+ * and nessflurry_refusal_of(answer) is the reason. For any other code, the comment at the operation says which of the functions
+ * nessflurry_..._of give what it found.
  *
- * What a field holds is said at each function; a field that is not named there is 0. Where a call is refused all fields but the
- * refusal are 0, except for a report, and no lent byte is changed.
+ *     uint64_t answer = nessflurry_check(file, file_size, line, NESSFLURRY_LINE_SIZE, list, NESSFLURRY_LIST_SIZE,
+ *                                        words, NESSFLURRY_WORDS_SIZE);
+ *     switch (nessflurry_code_of(answer)) {
+ *     case NESSFLURRY_REFUSED:  return cannot_check(nessflurry_refusal_of(answer));
+ *     case NESSFLURRY_ACCEPTED: return install(file, file_size);
+ *     default:                  return fails_on(line, nessflurry_lamps_of(answer), nessflurry_start_of(answer));
+ *     }
+ *
+ * Terms. A job file holds tables, which say what each action does at each kind of lamp, and a plan. It has A actions, W world
+ * states, C lamp kinds, R sensed results, and S program states besides the final one. Lamp kinds are numbered from 1, everything
+ * else from 0; the final program state is S. A world state stands for everything that actions can change. A line is an array of
+ * lamp kinds. A column is the kind of the lamp that the cabinet is at, or 0 at the end of the line. A start is a world state that
+ * the job marks as one.
+ *
+ * What holds for every call:
+ *
+ * - Sizes count elements, not bytes. A pointer must be aligned for its type and refer to at least as many elements as its size
+ *   says; it may be NULL if the size is 0. Contents, sizes and numbers may be anything: a call that makes no sense is refused.
+ * - Only `head` of nessflurry_read and `line`, `list` and `words` of nessflurry_check are ever written. They must not overlap each
+ *   other or the file. A refused call writes nothing.
+ * - No call allocates memory, keeps a pointer, or touches anything but what it is handed, and every call returns.
+ * - Threads: the library has no state of its own. Any number of calls may run at once, and may share a file or a line that nobody
+ *   writes meanwhile. What a call writes must not be shared while the call runs.
+ * - Stack: nessflurry_check needs NESSFLURRY_CHECK_STACK bytes, whatever the file; every other call needs less than 400 bytes.
+ * - Time: nothing is remembered between calls, so each one tests the whole file again and costs at least what nessflurry_read does:
+ *   some 0.1 microseconds for a file of a hundred bytes, some 15 for the largest tables. A check takes a few milliseconds at most.
+ *   A walk makes at most S * W steps, and a run at most that many for each lamp and for the end of the line; a step takes some ten
+ *   nanoseconds (docs/SPEED.md).
  */
 #ifndef NESSFLURRY_H
 #define NESSFLURRY_H
@@ -24,71 +45,254 @@
 #include <stddef.h>
 #include <stdint.h>
 
-#ifdef __cplusplus
-extern "C" {
+/*
+ * The version of this header. nessflurry_version() returns the library's. If the two differ, the library has other functions or
+ * answers than this header describes: call nothing else of it.
+ */
+#define NESSFLURRY_VERSION 1
+
+/* Makes the compiler warn if an answer is dropped. */
+#if (defined __cplusplus && __cplusplus >= 201703L) || (defined __STDC_VERSION__ && __STDC_VERSION__ > 201710L)
+#define NESSFLURRY_NODISCARD [[nodiscard]]
+#elif defined __GNUC__
+#define NESSFLURRY_NODISCARD __attribute__((warn_unused_result))
+#else
+#define NESSFLURRY_NODISCARD
 #endif
 
+#ifdef __cplusplus
+#define NESSFLURRY_CAST(type, value) static_cast<type>(value)
+extern "C" {
+#else
+#define NESSFLURRY_CAST(type, value) ((type)(value))
+#endif
+
+/* ---- Numbers ---- */
+
+/* Codes. 0 is success, under a name for each operation; a refused call has a code of its own. */
 enum {
-    NESSFLURRY_GOAL = 0,       /* state S with the goal true; of the check: accepted; of an action: there is one */
-    NESSFLURRY_NOT_LEGAL = 1,  /* failure 1 */
-    NESSFLURRY_NO_BRANCH = 2,  /* failure 2 */
-    NESSFLURRY_CIRCLES = 3,    /* failure 3 */
-    NESSFLURRY_GOAL_FALSE = 4, /* failure 4 */
-    NESSFLURRY_STOPPED = 5,    /* a run: more steps than its limit */
-    NESSFLURRY_ARRIVED = 6,    /* a walk: the next lamp, or the line's end */
-    NESSFLURRY_ENDED = 7       /* an action in state S */
+    NESSFLURRY_DONE = 0,       /* read, begin, report: done */
+    NESSFLURRY_GOAL = 0,       /* walk, run: ended in the final state with the goal true */
+    NESSFLURRY_ACCEPTED = 0,   /* check: the plan is right on every line */
+    NESSFLURRY_ACTION = 0,     /* action: there is an action to perform */
+    NESSFLURRY_NOT_LEGAL = 1,  /* walk, run, check: failure 1, the plan's action is not legal */
+    NESSFLURRY_NO_BRANCH = 2,  /* failure 2, the plan has no branch for the sensed result */
+    NESSFLURRY_CIRCLES = 3,    /* failure 3, the plan goes on for ever at one lamp or at the end of the line */
+    NESSFLURRY_GOAL_FALSE = 4, /* failure 4, ended in the final state with the goal false */
+    NESSFLURRY_STOPPED = 5,    /* run: not ended within the limit of steps */
+    NESSFLURRY_ARRIVED = 6,    /* walk: moved on, to the next lamp or to the end of the line */
+    NESSFLURRY_ENDED = 7,      /* action: the cabinet is in the final state */
+    NESSFLURRY_REFUSED = 255   /* any: see nessflurry_refusal_of */
 };
 
-/*
- * The reader. Where the file is not refused, head gets bytes 0 to 5 (A, W, C, R, S, the first program state), then offset and length of
- * marks, cells, starts, goal and plan. Refusals 1 to 11.
- */
-uint64_t nessflurry_read(const uint8_t *file, size_t file_size, uint16_t head[16]);
+/* Reasons for a refusal. Where several apply, the lowest number is given. */
+enum {
+    /* The job file: refused by every operation. */
+    NESSFLURRY_REFUSED_FILE_SIZE = 1,   /* shorter than 28 or longer than 65,535 bytes */
+    NESSFLURRY_REFUSED_NUMBERS = 2,     /* one of the first eight bytes is out of range */
+    NESSFLURRY_REFUSED_PART_PLACE = 3,  /* a part begins before byte 28 or before the previous one ends, or ends after the file */
+    NESSFLURRY_REFUSED_PART_LENGTH = 4, /* a part is not as long as the job's numbers make it */
+    NESSFLURRY_REFUSED_MARKS = 5,       /* an action's mark is neither 0 nor 1 */
+    NESSFLURRY_REFUSED_CELLS = 6,       /* a cell has a world state or result out of range, or is not legal with a world state not 0 */
+    NESSFLURRY_REFUSED_END_CELLS = 7,   /* an action that moves on is legal at the end of the line */
+    NESSFLURRY_REFUSED_STARTS = 8,      /* a byte of the starts is neither 0 nor 1, or none is 1 */
+    NESSFLURRY_REFUSED_GOAL = 9,        /* a byte of the goal is neither 0 nor 1 */
+    NESSFLURRY_REFUSED_ACTIONS = 10,    /* the plan names an action that the job does not have */
+    NESSFLURRY_REFUSED_TARGETS = 11,    /* the plan names a program state that it does not have */
+    /* The other arguments. */
+    NESSFLURRY_REFUSED_LINE_BUFFER = 12,  /* check: fewer than S * W + 1 elements in `line` */
+    NESSFLURRY_REFUSED_WORK_BUFFERS = 13, /* check: fewer than (S + 1) * W elements in `list`, or bits in `words` */
+    NESSFLURRY_REFUSED_WORLD = 14,        /* run: not a start; walk: no such world state */
+    NESSFLURRY_REFUSED_LINE = 15,         /* run: more than 65,535 lamps, or no such lamp kind; walk: no such column */
+    NESSFLURRY_REFUSED_STATE = 16,        /* walk, action, report: no such program state */
+    /* What a cabinet reports. */
+    NESSFLURRY_REFUSED_AFTER_END = 17, /* the cabinet is in the final state */
+    NESSFLURRY_REFUSED_RESULT = 18,    /* no such result, or the plan has no branch for it here */
+    NESSFLURRY_REFUSED_NO_LAMP = 19    /* the action moves on, but no lamp is left */
+};
+
+/* Sizes. */
+enum {
+    NESSFLURRY_MAX_FILE_SIZE = 65535,   /* the longest job file, in bytes */
+    NESSFLURRY_MAX_LAMPS = 65535,       /* the longest line that can be run */
+    NESSFLURRY_LINE_SIZE = 4097,        /* check: enough elements in `line` for every job, */
+    NESSFLURRY_LIST_SIZE = 4160,        /* in `list`, */
+    NESSFLURRY_WORDS_SIZE = 65,         /* and in `words` */
+    NESSFLURRY_CHECK_STACK = 256 * 1024 /* check: the stack that it needs, in bytes */
+};
+
+/* Where nessflurry_read puts what into `head`. Offsets are from the front of the file; lengths are in bytes. */
+enum {
+    NESSFLURRY_HEAD_ACTIONS = 0,     /* A */
+    NESSFLURRY_HEAD_WORLDS = 1,      /* W */
+    NESSFLURRY_HEAD_KINDS = 2,       /* C */
+    NESSFLURRY_HEAD_RESULTS = 3,     /* R */
+    NESSFLURRY_HEAD_STATES = 4,      /* S */
+    NESSFLURRY_HEAD_FIRST_STATE = 5, /* where the plan begins */
+    NESSFLURRY_HEAD_MARKS_OFFSET = 6,
+    NESSFLURRY_HEAD_MARKS_LENGTH = 7,
+    NESSFLURRY_HEAD_CELLS_OFFSET = 8,
+    NESSFLURRY_HEAD_CELLS_LENGTH = 9,
+    NESSFLURRY_HEAD_STARTS_OFFSET = 10,
+    NESSFLURRY_HEAD_STARTS_LENGTH = 11,
+    NESSFLURRY_HEAD_GOAL_OFFSET = 12,
+    NESSFLURRY_HEAD_GOAL_LENGTH = 13,
+    NESSFLURRY_HEAD_PLAN_OFFSET = 14,
+    NESSFLURRY_HEAD_PLAN_LENGTH = 15,
+    NESSFLURRY_HEAD_SIZE = 16 /* elements in `head` */
+};
+
+/* ---- Reading an answer ---- */
 
 /*
- * The walk at one lamp (column 1 to C) or at the line's end (column 0) from any program state and world state. An ending: its code, and
- * in count the steps made there. Arrived: the program state, the world state and the steps, that of moving on among them.
- * Refusals 1 to 11, 14 (world not below W), 15 (no such column), 16.
+ * The fields of an answer; one that the operation's comment does not name is 0. Of a refused answer all fields but code and
+ * refusal are 0, except that a refused report has the state and the lamps that it was handed.
+ *
+ *     bits  0 to  7   refusal: its reason, or 0 if the call was not refused
+ *     bits  8 to 15   code
+ *     bits 16 to 23   a program state, a start or an action
+ *     bits 24 to 31   a world state
+ *     bits 32 to 63   a number of steps, pairs or lamps
  */
-uint64_t nessflurry_walk(const uint8_t *file, size_t file_size, uint8_t state, uint8_t world, uint8_t column);
+static inline uint8_t nessflurry_refusal_of(uint64_t answer) { return NESSFLURRY_CAST(uint8_t, answer); }
+static inline uint8_t nessflurry_code_of(uint64_t answer) { return NESSFLURRY_CAST(uint8_t, answer >> 8); }
+static inline uint8_t nessflurry_state_of(uint64_t answer) { return NESSFLURRY_CAST(uint8_t, answer >> 16); }
+static inline uint8_t nessflurry_start_of(uint64_t answer) { return NESSFLURRY_CAST(uint8_t, answer >> 16); }
+static inline uint8_t nessflurry_action_of(uint64_t answer) { return NESSFLURRY_CAST(uint8_t, answer >> 16); }
+static inline uint8_t nessflurry_world_of(uint64_t answer) { return NESSFLURRY_CAST(uint8_t, answer >> 24); }
+static inline uint32_t nessflurry_steps_of(uint64_t answer) { return NESSFLURRY_CAST(uint32_t, answer >> 32); }
+static inline uint32_t nessflurry_pairs_of(uint64_t answer) { return NESSFLURRY_CAST(uint32_t, answer >> 32); }
+static inline uint16_t nessflurry_lamps_of(uint64_t answer) { return NESSFLURRY_CAST(uint16_t, answer >> 32); }
+
+/* ---- The library's functions ---- */
+
+uint32_t nessflurry_version(void);
 
 /*
- * The run of a line of lamp kinds from a start, with a limit of steps. Its code is an ending or stopped, and count the steps.
- * Refusals 1 to 11, 14, 15.
+ * These are for other languages. They do what the functions below do, but no pointer may be NULL, even if its size is 0. From C and
+ * C++, call the functions below.
  */
-uint64_t nessflurry_run(const uint8_t *file, size_t file_size, uint8_t start, const uint8_t *line, size_t lamps, uint32_t limit);
+NESSFLURRY_NODISCARD
+uint64_t nessflurry_raw_read(const uint8_t *file, size_t file_size, uint16_t head[NESSFLURRY_HEAD_SIZE]);
+NESSFLURRY_NODISCARD
+uint64_t nessflurry_raw_walk(const uint8_t *file, size_t file_size, uint8_t state, uint8_t world, uint8_t column);
+NESSFLURRY_NODISCARD
+uint64_t nessflurry_raw_run(const uint8_t *file, size_t file_size, uint8_t start, const uint8_t *line, size_t lamps,
+                            uint32_t limit);
+NESSFLURRY_NODISCARD
+uint64_t nessflurry_raw_check(const uint8_t *file, size_t file_size, uint8_t *line, size_t line_size, uint32_t *list,
+                              size_t list_size, uint64_t *words, size_t words_size);
+NESSFLURRY_NODISCARD
+uint64_t nessflurry_raw_begin(const uint8_t *file, size_t file_size, uint16_t lamps);
+NESSFLURRY_NODISCARD
+uint64_t nessflurry_raw_action(const uint8_t *file, size_t file_size, uint8_t state, uint16_t lamps);
+NESSFLURRY_NODISCARD
+uint64_t nessflurry_raw_report(const uint8_t *file, size_t file_size, uint8_t state, uint16_t lamps, uint8_t result);
+
+/* For the functions below: the bytes, or some other pointer that is not NULL where there are none. */
+static inline const uint8_t *nessflurry_not_null(const uint8_t *bytes, size_t size)
+{
+    static const uint8_t none = 0;
+    return size == 0 ? &none : bytes;
+}
+
+/* ---- The operations ---- */
+
+/* In these comments state_of is short for nessflurry_state_of(answer), and so on; refusals are given by their numbers. */
 
 /*
- * The check. Accepted (code 0): count is the number of pairs. Failed: its code, the start in state, and in count the lamps of the
- * failing line, which is at the front of the buffer `line`. That buffer must have S·W + 1 bytes, list (S + 1)·W numbers, and words
- * (S + 1)·W bits: 4,097 bytes, 4,160 numbers and 65 words are enough for every job. list and words need not be cleared.
- * It needs 256 KB of stack. Refusals 1 to 13.
+ * Reads a job file of file_size bytes. NESSFLURRY_DONE: the 16 elements of `head` have been written; NESSFLURRY_HEAD_... says what
+ * they are. `head` must not be NULL. Refusals 1 to 11; then it is unchanged.
  */
-uint64_t nessflurry_check(const uint8_t *file, size_t file_size, uint8_t *line, size_t line_size, uint32_t *list, size_t list_size,
-                          uint64_t *words, size_t words_size);
+NESSFLURRY_NODISCARD
+static inline uint64_t nessflurry_read(const uint8_t *file, size_t file_size, uint16_t head[NESSFLURRY_HEAD_SIZE])
+{
+    return nessflurry_raw_read(nessflurry_not_null(file, file_size), file_size, head);
+}
 
 /*
- * A cabinet's state is its program state and the number of lamps left. Each call below is handed the state that begin or the last
- * report answered: in state, and in count.
+ * Follows the plan at one lamp (column 1 to C) or at the end of the line (column 0), from any program state and world state.
+ * NESSFLURRY_GOAL or a failure: the walk ended here after steps_of steps. NESSFLURRY_ARRIVED: it moved on after steps_of steps,
+ * counting the step that moved on, and arrived with state_of and world_of. Refusals 1 to 11, 14, 15, 16.
+ */
+NESSFLURRY_NODISCARD
+static inline uint64_t nessflurry_walk(const uint8_t *file, size_t file_size, uint8_t state, uint8_t world, uint8_t column)
+{
+    return nessflurry_raw_walk(nessflurry_not_null(file, file_size), file_size, state, world, column);
+}
+
+/*
+ * Runs the plan from a start along a line of `lamps` elements, each a lamp kind. NESSFLURRY_GOAL or a failure: the run ended after
+ * steps_of steps. NESSFLURRY_STOPPED: it would take more steps than `limit`, and steps_of is the limit; no run takes as many as
+ * UINT32_MAX. Refusals 1 to 11, 14, 15.
+ */
+NESSFLURRY_NODISCARD
+static inline uint64_t nessflurry_run(const uint8_t *file, size_t file_size, uint8_t start, const uint8_t *line, size_t lamps,
+                                      uint32_t limit)
+{
+    return nessflurry_raw_run(nessflurry_not_null(file, file_size), file_size, start, nessflurry_not_null(line, lamps), lamps,
+                              limit);
+}
+
+/*
+ * Checks the plan on every line of every length, from every start.
+ *
+ * NESSFLURRY_ACCEPTED: the plan is right on all of them; `line` is unchanged. Over all lines, pairs_of different pairs of program
+ * state and world state occur on arriving at a lamp or at the end of the line.
+ *
+ * A failure: from start_of, the plan fails in this way on the line that is now in the first lamps_of elements of `line`; the rest
+ * of `line` is unchanged. No shorter line fails. Of several failing lines of that length it is the one with the lowest start, and
+ * then the one with the lower kind at the first lamp that differs.
+ *
+ * `line` needs S * W + 1 elements, `list` (S + 1) * W, and `words` as many bits, 64 to an element: NESSFLURRY_LINE_SIZE,
+ * NESSFLURRY_LIST_SIZE and NESSFLURRY_WORDS_SIZE elements are enough for every job. `list` and `words` are working memory: they
+ * need not be cleared, and have no meaning afterwards. Refusals 1 to 13.
+ */
+NESSFLURRY_NODISCARD
+static inline uint64_t nessflurry_check(const uint8_t *file, size_t file_size, uint8_t *line, size_t line_size, uint32_t *list,
+                                        size_t list_size, uint64_t *words, size_t words_size)
+{
+    uint8_t no_line = 0;
+    uint32_t no_list = 0;
+    uint64_t no_words = 0;
+    return nessflurry_raw_check(nessflurry_not_null(file, file_size), file_size, line_size == 0 ? &no_line : line, line_size,
+                                list_size == 0 ? &no_list : list, list_size, words_size == 0 ? &no_words : words, words_size);
+}
+
+/*
+ * The cabinet. What it has to remember between calls is its program state and the number of lamps left: state_of and lamps_of of
+ * the last begin or report.
  */
 
-/* The first state, with the panel's count of lamps. Refusals 1 to 11. */
-uint64_t nessflurry_begin(const uint8_t *file, size_t file_size, uint16_t lamps);
+/* Begins a line with this number of lamps. NESSFLURRY_DONE: state_of and lamps_of are the cabinet's. Refusals 1 to 11. */
+NESSFLURRY_NODISCARD
+static inline uint64_t nessflurry_begin(const uint8_t *file, size_t file_size, uint16_t lamps)
+{
+    return nessflurry_raw_begin(nessflurry_not_null(file, file_size), file_size, lamps);
+}
 
-/* The action to be done now, in state, with code 0; or code ended. Refusals 1 to 11, 16. */
-uint64_t nessflurry_action(const uint8_t *file, size_t file_size, uint8_t state, uint16_t lamps);
+/* What to do now. NESSFLURRY_ACTION: action_of. NESSFLURRY_ENDED: nothing more, the plan is at its end. Refusals 1 to 11, 16. */
+NESSFLURRY_NODISCARD
+static inline uint64_t nessflurry_action(const uint8_t *file, size_t file_size, uint8_t state, uint16_t lamps)
+{
+    return nessflurry_raw_action(nessflurry_not_null(file, file_size), file_size, state, lamps);
+}
 
-/* The state after the action gave this result; where the report is refused, the old state. Refusals 1 to 11, 16 to 19. */
-uint64_t nessflurry_report(const uint8_t *file, size_t file_size, uint8_t state, uint16_t lamps, uint8_t result);
-
-static inline uint8_t nessflurry_refusal(uint64_t answer) { return (uint8_t)answer; }
-static inline uint8_t nessflurry_code(uint64_t answer) { return (uint8_t)(answer >> 8); }
-static inline uint8_t nessflurry_state(uint64_t answer) { return (uint8_t)(answer >> 16); }
-static inline uint8_t nessflurry_world(uint64_t answer) { return (uint8_t)(answer >> 24); }
-static inline uint32_t nessflurry_count(uint64_t answer) { return (uint32_t)(answer >> 32); }
+/*
+ * Reports the result that the action had. NESSFLURRY_DONE: state_of and lamps_of are the cabinet's now. Refusals 1 to 11 and
+ * 16 to 19; then state_of and lamps_of are as handed in.
+ */
+NESSFLURRY_NODISCARD
+static inline uint64_t nessflurry_report(const uint8_t *file, size_t file_size, uint8_t state, uint16_t lamps,
+                                         uint8_t result)
+{
+    return nessflurry_raw_report(nessflurry_not_null(file, file_size), file_size, state, lamps, result);
+}
 
 #ifdef __cplusplus
 }
 #endif
+
+#undef NESSFLURRY_CAST
 
 #endif

@@ -9,11 +9,7 @@
 #include "plain.h"
 #include "plain_job.h"
 
-enum {
-    HEAD_SIZE = 28,    /* 01, Job file: the first part begins at 28 or later */
-    MOST_FILE = 65535, /* 01, Who can cause which number: 1 */
-    MOST_LAMPS = 65535 /* 01, One run */
-};
+enum { PAIRS_AT = 8, FIRST_PART_AT = 28 }; /* 01, Job file: the least offset of a part */
 
 enum { MARKS, CELLS, STARTS, GOAL, PLAN, PARTS };
 
@@ -26,12 +22,12 @@ static unsigned number16(const uint8_t *bytes)
 
 static unsigned offset_of(const uint8_t *file, unsigned part)
 {
-    return number16(file + 8 + 4 * part);
+    return number16(file + PAIRS_AT + 4 * part);
 }
 
 static unsigned length_of(const uint8_t *file, unsigned part)
 {
-    return number16(file + 10 + 4 * part);
+    return number16(file + PAIRS_AT + 4 * part + 2);
 }
 
 static bool within(unsigned number, unsigned least, unsigned most)
@@ -47,7 +43,7 @@ static bool numbers_in_range(const uint8_t *file)
 
 static bool parts_in_place(const uint8_t *file, size_t file_size)
 {
-    unsigned end_before = HEAD_SIZE;
+    unsigned end_before = FIRST_PART_AT;
     for (unsigned part = 0; part < PARTS; part++) {
         const unsigned offset = offset_of(file, part);
         const unsigned end = offset + length_of(file, part);
@@ -148,50 +144,50 @@ static bool targets_in_range(const struct job *job)
 }
 
 /*
- * Each test goes over the whole file before the next begins, so the lowest number that applies is given; and each may
- * rely on those before it.
+ * Each test goes over the whole file before the next begins, so the lowest number is found; and each may rely on
+ * those before it.
  */
 unsigned read_job(const uint8_t *file, size_t file_size, struct job *job)
 {
-    if (file_size < HEAD_SIZE || file_size > MOST_FILE)
-        return 1;
+    if (file_size < FIRST_PART_AT || file_size > NESSFLURRY_MAX_FILE_SIZE)
+        return NESSFLURRY_REFUSED_FILE_SIZE;
     if (!numbers_in_range(file))
-        return 2;
+        return NESSFLURRY_REFUSED_NUMBERS;
     if (!parts_in_place(file, file_size))
-        return 3;
+        return NESSFLURRY_REFUSED_PART_PLACE;
     *job = job_in(file);
     if (!lengths_right(file, job))
-        return 4;
+        return NESSFLURRY_REFUSED_PART_LENGTH;
     if (!all_0_or_1(job->marks, job->actions))
-        return 5;
+        return NESSFLURRY_REFUSED_MARKS;
     if (!cells_in_range(job))
-        return 6;
+        return NESSFLURRY_REFUSED_CELLS;
     if (!moving_on_needs_a_lamp(job))
-        return 7;
+        return NESSFLURRY_REFUSED_END_CELLS;
     if (!all_0_or_1(job->starts, job->worlds) || !some_1(job->starts, job->worlds))
-        return 8;
+        return NESSFLURRY_REFUSED_STARTS;
     if (!all_0_or_1(job->goal, job->worlds * job->columns))
-        return 9;
+        return NESSFLURRY_REFUSED_GOAL;
     if (!actions_in_range(job))
-        return 10;
+        return NESSFLURRY_REFUSED_ACTIONS;
     if (!targets_in_range(job))
-        return 11;
+        return NESSFLURRY_REFUSED_TARGETS;
     return 0;
 }
 
-uint64_t plain_read(const uint8_t *file, size_t file_size, uint16_t head[16])
+uint64_t plain_read(const uint8_t *file, size_t file_size, uint16_t head[NESSFLURRY_HEAD_SIZE])
 {
     struct job job;
     const unsigned refusal = read_job(file, file_size, &job);
     if (refusal != 0)
         return refused(refusal);
-    for (unsigned i = 0; i < 6; i++)
+    for (unsigned i = NESSFLURRY_HEAD_ACTIONS; i <= NESSFLURRY_HEAD_FIRST_STATE; i++)
         head[i] = file[i];
     for (unsigned part = 0; part < PARTS; part++) {
-        head[6 + 2 * part] = (uint16_t)offset_of(file, part);
-        head[7 + 2 * part] = (uint16_t)length_of(file, part);
+        head[NESSFLURRY_HEAD_MARKS_OFFSET + 2 * part] = (uint16_t)offset_of(file, part);
+        head[NESSFLURRY_HEAD_MARKS_LENGTH + 2 * part] = (uint16_t)length_of(file, part);
     }
-    return 0;
+    return answered(NESSFLURRY_DONE, 0, 0, 0);
 }
 
 /* ---- The walk at one lamp or at the line's end (01, One run) ---- */
@@ -200,11 +196,11 @@ uint64_t plain_read(const uint8_t *file, size_t file_size, uint16_t head[16])
 static unsigned walk_refusal(const struct job *job, struct pair at, unsigned column)
 {
     if (at.world.number >= job->worlds)
-        return 14;
+        return NESSFLURRY_REFUSED_WORLD;
     if (column >= job->columns)
-        return 15;
+        return NESSFLURRY_REFUSED_LINE;
     if (at.state.number > job->final.number)
-        return 16;
+        return NESSFLURRY_REFUSED_STATE;
     return 0;
 }
 
@@ -235,16 +231,16 @@ static bool kinds_in_range(const struct job *job, const uint8_t *line, size_t la
 static unsigned run_refusal(const struct job *job, unsigned start, const uint8_t *line, size_t lamps)
 {
     if (start >= job->worlds || job->starts[start] != 1)
-        return 14;
-    if (lamps > MOST_LAMPS || !kinds_in_range(job, line, lamps))
-        return 15;
+        return NESSFLURRY_REFUSED_WORLD;
+    if (lamps > NESSFLURRY_MAX_LAMPS || !kinds_in_range(job, line, lamps))
+        return NESSFLURRY_REFUSED_LINE;
     return 0;
 }
 
 /*
  * The walks at the lamps, first to last, and then at the end, where no walk arrives anywhere, since moving on is not
  * legal there. Steps only grow: once they are above the limit, the ending's count would be too. They cannot overflow,
- * as (n+1)·S·W is at most 65,536·4,096.
+ * as a line of 65,535 lamps has at most 65,536·4,096 of them.
  */
 static uint64_t run(const struct job *job, world_state start, const uint8_t *line, size_t lamps, uint32_t limit)
 {
@@ -276,7 +272,7 @@ uint64_t plain_begin(const uint8_t *file, size_t file_size, uint16_t lamps)
 {
     struct job job;
     const unsigned refusal = read_job(file, file_size, &job);
-    return refusal != 0 ? refused(refusal) : answered(0, job.first.number, 0, lamps);
+    return refusal != 0 ? refused(refusal) : answered(NESSFLURRY_DONE, job.first.number, 0, lamps);
 }
 
 uint64_t plain_action(const uint8_t *file, size_t file_size, uint8_t state, uint16_t lamps)
@@ -287,24 +283,24 @@ uint64_t plain_action(const uint8_t *file, size_t file_size, uint8_t state, uint
     if (refusal != 0)
         return refused(refusal);
     if (state > job.final.number)
-        return refused(16);
+        return refused(NESSFLURRY_REFUSED_STATE);
     if (state == job.final.number)
         return answered(NESSFLURRY_ENDED, 0, 0, 0);
-    return answered(NESSFLURRY_GOAL, row_of(&job, (program_state){state})[0], 0, 0);
+    return answered(NESSFLURRY_ACTION, row_of(&job, (program_state){state})[0], 0, 0);
 }
 
 /* 01, Who can cause which number: 16 to 19. */
 static unsigned report_refusal(const struct job *job, program_state state, unsigned lamps, unsigned result)
 {
     if (state.number > job->final.number)
-        return 16;
+        return NESSFLURRY_REFUSED_STATE;
     if (state.number == job->final.number)
-        return 17;
+        return NESSFLURRY_REFUSED_AFTER_END;
     const uint8_t *const row = row_of(job, state);
     if (result >= job->results || row[1 + result] == NONE)
-        return 18;
+        return NESSFLURRY_REFUSED_RESULT;
     if (job->marks[row[0]] == 1 && lamps == 0)
-        return 19;
+        return NESSFLURRY_REFUSED_NO_LAMP;
     return 0;
 }
 
@@ -315,8 +311,8 @@ uint64_t plain_report(const uint8_t *file, size_t file_size, uint8_t state, uint
     if (refusal == 0)
         refusal = report_refusal(&job, (program_state){state}, lamps, result);
     if (refusal != 0)
-        return refused(refusal) | answered(0, state, 0, lamps);
+        return refused(refusal) | answered(0, state, 0, lamps); /* the old state, in the fields that a refusal leaves 0 */
     const uint8_t *const row = row_of(&job, (program_state){state});
-    const unsigned passed = job.marks[row[0]]; /* 1 moves on, 0 doesn't */
-    return answered(0, row[1 + result], 0, lamps - passed);
+    const unsigned passed = job.marks[row[0]]; /* an action's mark is the number of lamps that it passes */
+    return answered(NESSFLURRY_DONE, row[1 + result], 0, lamps - passed);
 }

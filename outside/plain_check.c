@@ -12,7 +12,7 @@
 /* The search is compiled into each form anew, and with it how a fate is found, so that neither form pays for the other. */
 #define EACH_FORM static inline __attribute__((always_inline))
 
-enum { MOST_COLUMNS = 16, MOST_STATES = 64, MOST_WORLDS = 64 }; /* 01, Job file: of C + 1, S and W */
+enum { MOST_COLUMNS = 16, MOST_STATES = 64, MOST_WORLDS = 64 }; /* of C + 1, S and W (01, Job file) */
 
 /* ---- Pairs as numbers ---- */
 
@@ -85,7 +85,7 @@ static unsigned kind_in(uint32_t entry)
 
 /* ---- What a pair comes to at a column ---- */
 
-/* Its fate as a number: below GOES the code of an ending, from there on the pair with which the walk arrives at what follows. */
+/* Its fate as a number: below GOES the code of an ending, from there on the pair with which the walk moves on. */
 enum { GOES = 8, UNKNOWN = 0xffff };
 
 static unsigned gone_to(struct pair pair)
@@ -173,7 +173,7 @@ EACH_FORM unsigned arrive(struct search *search, finder *fate_of, struct pair pa
     return fate_of(search, pair, END_COLUMN);
 }
 
-/* The line to the pair at this place with one lamp of this kind behind it, and its end there: Goal or its failure. */
+/* The line to the pair at this place, and after it one lamp of this kind and the end: Goal or its failure. */
 EACH_FORM unsigned lengthen(struct search *search, finder *fate_of, struct pair pair, uint32_t place, unsigned kind)
 {
     const unsigned fate = fate_of(search, pair, kind);
@@ -190,7 +190,7 @@ static uint32_t lamps_before(const uint32_t *list, uint32_t place)
 }
 
 /*
- * The failing answer for the line to this place with one lamp of this kind behind it. The line is written from its last
+ * The failing answer for the line to this place with one lamp of this kind after it. The line is written from its last
  * lamp to its first, and then the place is that of its start. It fits: on the way each pair is left by moving on, so it
  * is non-final, and none comes twice; so at most S·W lamps are before the last one.
  */
@@ -206,8 +206,8 @@ static uint64_t failed_line(const uint32_t *list, unsigned failure, uint32_t pla
 }
 
 /*
- * The first failure met is that of the least failing line: fewest lamps, then lowest start, then lower kind at the
- * first lamp where two differ.
+ * The first failure met is that of the least failing line (01, The check): lines are compared by their lamps, then by
+ * their starts, then kind by kind from the first lamp on.
  *
  * A walk depends on its pair and its column alone. So where a run fails before its line's last lamp, the line up to the
  * lamp of the failure is shorter and fails as well: a shortest failing line fails at its last lamp or at its end.
@@ -218,7 +218,7 @@ static uint64_t failed_line(const uint32_t *list, unsigned failure, uint32_t pla
  * as one that fails at its last lamp, and only start and kinds may decide between the two. Where a run ends before the
  * last lamp, its line reaches Goal, or a shorter one has failed.
  *
- * When two lines get the same lamps behind them, the one that is earlier in the order stays the earlier. So among the
+ * When the same lamps are added to two lines, the one that is earlier in the order stays the earlier. So among the
  * lines that arrive with one pair the first speaks for all: whatever lamps follow, another fails with them exactly if
  * the first does, and then it is later in the order. This is why a pair is kept once, when it is first arrived at.
  *
@@ -250,7 +250,7 @@ EACH_FORM uint64_t search_lines(struct search search, finder *fate_of, uint8_t *
                 return failed_line(search.list, failure, place, kind, line);
         }
     }
-    return answered(NESSFLURRY_GOAL, 0, 0, search.reached);
+    return answered(NESSFLURRY_ACCEPTED, 0, 0, search.reached);
 }
 
 /* ---- The two forms ---- */
@@ -259,9 +259,9 @@ EACH_FORM uint64_t search_lines(struct search search, finder *fate_of, uint8_t *
 static unsigned buffer_refusal(const struct job *job, size_t line_size, size_t list_size, size_t words_size)
 {
     if (line_size < unfinished_count(job) + 1)
-        return 12;
+        return NESSFLURRY_REFUSED_LINE_BUFFER;
     if (list_size < pair_count(job) || words_size < word_count(job))
-        return 13;
+        return NESSFLURRY_REFUSED_WORK_BUFFERS;
     return 0;
 }
 

@@ -12,11 +12,11 @@
 #include <stdbool.h>
 
 enum {
-    NONE = 255,    /* 01, Job file: as a result not legal, as a target no branch */
-    END_COLUMN = 0 /* 01, The line and its tables: the column when no lamp is left */
+    NONE = 255,    /* as a result: the action is not legal; as a target: there is no branch (01, Job file) */
+    END_COLUMN = 0 /* the column at the end of the line (01, The line and its tables) */
 };
 
-/* 01, The line and its tables: two sorts of number, and neither may pass for the other. */
+/* Two types, so that the compiler refuses the one where the other is due (01, The line and its tables). */
 typedef struct { unsigned number; } program_state;
 typedef struct { unsigned number; } world_state;
 
@@ -42,7 +42,7 @@ static inline uint64_t answered(unsigned code, unsigned state, unsigned world, u
 
 static inline uint64_t refused(unsigned refusal)
 {
-    return refusal;
+    return answered(NESSFLURRY_REFUSED, 0, 0, 0) | refusal;
 }
 
 /* ---- Places in the tables (01, Job file, parts 2, 4 and 5) ---- */
@@ -58,7 +58,7 @@ static inline bool goal_holds(const struct job *job, world_state world, unsigned
     return job->goal[world.number * job->columns + column] == 1;
 }
 
-/* The plan's row of a non-final state: its action, then a target for each result. */
+/* The plan's row of a non-final state: the action, and after it the targets by result. */
 static inline const uint8_t *row_of(const struct job *job, program_state state)
 {
     return job->plan + state.number * job->row_bytes;
@@ -71,8 +71,8 @@ unsigned read_job(const uint8_t *file, size_t file_size, struct job *job);
 
 /* ---- One action, and the walk at one lamp or at the line's end (01, One run) ---- */
 
-/* What an action comes to: failure 1 or 2; or a step to a pair, which arrives at what follows, or STAYS. */
-enum { STAYS = 8 }; /* beside the codes of nessflurry.h */
+/* What an action comes to: failure 1 or 2; or a step to a pair, which moves on and arrives, or STAYS. */
+enum { STAYS = 8 }; /* none of the codes of nessflurry.h */
 struct outcome {
     unsigned code;
     struct pair pair;
@@ -102,15 +102,15 @@ static inline unsigned judged(const struct job *job, world_state world, unsigned
     return goal_holds(job, world, column) ? NESSFLURRY_GOAL : NESSFLURRY_GOAL_FALSE;
 }
 
-/* The end of a walk: its code, the steps counted in this column and, where it arrived at what follows, with which pair. */
+/* The end of a walk: its code, the steps counted in this column and, if it moved on, the pair with which it arrived. */
 struct walked {
     unsigned code, steps;
     struct pair arrived;
 };
 
 /*
- * The repetition of 01, One run, until the run ends or the line has one lamp fewer. The tests stand in the order given
- * there: failure 3 just after the final state.
+ * The loop of 01, One run, until the run ends or the lamp is passed. The tests are in the order of 01, which puts that for
+ * failure 3 after that for the final state.
  */
 static inline struct walked walk(const struct job *job, struct pair at, unsigned column)
 {

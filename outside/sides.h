@@ -1,5 +1,6 @@
 /*
- * The two sides that are held against each other: the product, and the plain implementation.
+ * The two sides that are held against each other: the product, through the functions that its header defines for C, and the
+ * plain implementation.
  */
 #ifndef OUTSIDE_SIDES_H
 #define OUTSIDE_SIDES_H
@@ -11,7 +12,7 @@ enum { NESSFLURRY, PLAIN, SIDES };
 
 struct side {
     const char *name;
-    uint64_t (*read)(const uint8_t *file, size_t file_size, uint16_t head[16]);
+    uint64_t (*read)(const uint8_t *file, size_t file_size, uint16_t head[NESSFLURRY_HEAD_SIZE]);
     uint64_t (*walk)(const uint8_t *file, size_t file_size, uint8_t state, uint8_t world, uint8_t column);
     uint64_t (*run)(const uint8_t *file, size_t file_size, uint8_t start, const uint8_t *line, size_t lamps, uint32_t limit);
     check_call *check;

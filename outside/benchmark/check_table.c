@@ -1,6 +1,6 @@
 /*
  * The check beside the two forms that it has in C: one walks each time, the other remembers what walks came to. Which of them
- * is the quicker one hangs on the job, so the product is held against the better of the two.
+ * is the quicker one depends on the job, so the product is held against the better of the two.
  */
 #include "measure.h"
 #include "tables.h"
@@ -82,7 +82,7 @@ static void print_growth_at(enum growing growing, int worlds, int states, int ki
     growing_subject(&subject, growing, (uint8_t)worlds, (uint8_t)states, (uint8_t)kinds);
     uint64_t answer = measure_check(&subject, best, &to_better);
     printf("%-12s%4d%4d%4d%8" PRIu32 "%14.1f%14.1f%14.1f%9.3f\n", growing_names[growing], worlds, states, kinds,
-           nessflurry_count(answer), best[NESSFLURRY] / 1e3, best[REMEMBERING] / 1e3, best[PLAIN] / 1e3, to_better);
+           nessflurry_pairs_of(answer), best[NESSFLURRY] / 1e3, best[REMEMBERING] / 1e3, best[PLAIN] / 1e3, to_better);
     fflush(stdout);
 }
 

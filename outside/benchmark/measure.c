@@ -12,14 +12,14 @@
 
 /* Lent to the checks of each side. Nobody clears them: a call finds what the last one left. */
 static struct {
-    uint8_t line[LINE_BYTES];
-    uint32_t list[LIST_NUMBERS];
-    uint64_t words[WORDS];
+    uint8_t line[NESSFLURRY_LINE_SIZE];
+    uint32_t list[NESSFLURRY_LIST_SIZE];
+    uint64_t words[NESSFLURRY_WORDS_SIZE];
 } lent[CHECK_SIDES];
 
 uint64_t call_reader(int side, const struct subject *subject)
 {
-    uint16_t head[16];
+    uint16_t head[NESSFLURRY_HEAD_SIZE];
     return sides[side].read(subject->file.bytes, subject->file.size, head);
 }
 
@@ -32,8 +32,8 @@ uint64_t call_run(int side, const struct subject *subject)
 uint64_t call_check(int side, const struct subject *subject)
 {
     static check_call *const checks[CHECK_SIDES] = {nessflurry_check, plain_check, plain_check_remembering};
-    return checks[side](subject->file.bytes, subject->file.size, lent[side].line, LINE_BYTES, lent[side].list, LIST_NUMBERS,
-                        lent[side].words, WORDS);
+    return checks[side](subject->file.bytes, subject->file.size, lent[side].line, NESSFLURRY_LINE_SIZE, lent[side].list,
+                        NESSFLURRY_LIST_SIZE, lent[side].words, NESSFLURRY_WORDS_SIZE);
 }
 
 uint64_t call_report(int side, const struct subject *subject)
@@ -51,7 +51,7 @@ static double processor_time(void)
     return 1e9 * (double)time.tv_sec + (double)time.tv_nsec;
 }
 
-/* Nanoseconds a call, over so many calls. */
+/* Nanoseconds a call, on average over this many calls. */
 static double batch(side_call *call, int side, const struct subject *subject, uint32_t calls)
 {
     static volatile uint64_t sink; /* so that no call can be left out */
@@ -67,8 +67,8 @@ static uint64_t common_answer(side_call *call, const struct subject *subject, in
     uint64_t answer = call(NESSFLURRY, subject);
     for (int side = PLAIN; side < sides_called; side++) {
         uint64_t other = call(side, subject);
-        bool lines_equal = memcmp(lent[NESSFLURRY].line, lent[side].line, LINE_BYTES) == 0;
-        if (answer == other && lines_equal && nessflurry_refusal(answer) == 0)
+        bool lines_equal = memcmp(lent[NESSFLURRY].line, lent[side].line, NESSFLURRY_LINE_SIZE) == 0;
+        if (answer == other && lines_equal && nessflurry_code_of(answer) != NESSFLURRY_REFUSED)
             continue;
         printf("%s: not equal, or refused: nessflurry %016" PRIx64 ", side %d %016" PRIx64 "\n", subject->name, answer, side,
                other);
@@ -100,14 +100,13 @@ uint64_t measure(side_call *call, const struct subject *subject, int sides_calle
 void print_answer(side_call *call, const struct subject *subject, uint64_t answer)
 {
     const char *const endings[] = {"goal", "failure 1", "failure 2", "failure 3", "failure 4"};
-    uint32_t count = nessflurry_count(answer);
-    uint8_t code = nessflurry_code(answer);
+    uint8_t code = nessflurry_code_of(answer);
     if (call == call_run)
-        printf("  %zu lamps, %" PRIu32 " steps, %s\n", subject->lamps, count, endings[code]);
-    else if (call == call_check && code == NESSFLURRY_GOAL)
-        printf("  accepted, %" PRIu32 " pairs\n", count);
+        printf("  %zu lamps, %" PRIu32 " steps, %s\n", subject->lamps, nessflurry_steps_of(answer), endings[code]);
+    else if (call == call_check && code == NESSFLURRY_ACCEPTED)
+        printf("  accepted, %" PRIu32 " pairs\n", nessflurry_pairs_of(answer));
     else if (call == call_check)
-        printf("  %s after %" PRIu32 " lamps\n", endings[code], count);
+        printf("  %s after %d lamps\n", endings[code], nessflurry_lamps_of(answer));
     else
         printf("  %zu bytes\n", subject->file.size);
     fflush(stdout);

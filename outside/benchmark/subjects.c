@@ -10,9 +10,9 @@ static uint8_t kind_that_leads_on(const struct subject *subject, uint8_t *state,
     for (size_t tries = 0; tries < subject->job.kinds; tries++) {
         uint8_t kind = (uint8_t)(1 + (subject->lamps + tries) % subject->job.kinds);
         uint64_t answer = plain_walk(subject->file.bytes, subject->file.size, *state, *world, kind);
-        if (nessflurry_code(answer) == NESSFLURRY_ARRIVED && nessflurry_state(answer) != subject->job.states) {
-            *state = nessflurry_state(answer);
-            *world = nessflurry_world(answer);
+        if (nessflurry_code_of(answer) == NESSFLURRY_ARRIVED && nessflurry_state_of(answer) != subject->job.states) {
+            *state = nessflurry_state_of(answer);
+            *world = nessflurry_world_of(answer);
             return kind;
         }
     }

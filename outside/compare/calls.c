@@ -5,8 +5,6 @@
 #include "small_stack.h"
 #include "tally.h"
 
-enum { MOST_LAMPS = 65536 }; /* one more than a run takes */
-
 static struct {
     struct lent file, head, line, list, words;
 } lent[SIDES];
@@ -14,17 +12,29 @@ static struct {
 /* The file as it is lent to each side, and its size. */
 static const uint8_t *bytes[SIDES];
 static size_t size;
-static bool at_end; /* where the next things are lent: it changes from file to file */
+
+/* How things are lent, which changes from file to file: at which end of their room, and whether as NULL where they are empty. */
+static bool at_end, empty_is_null;
 
 void open_rooms(void)
 {
     for (int i = 0; i < SIDES; i++) {
-        open_room(&lent[i].file, MOST_BYTES + 1);
-        open_room(&lent[i].head, 16 * sizeof(uint16_t));
-        open_room(&lent[i].line, MOST_LAMPS);
-        open_room(&lent[i].list, (LIST_NUMBERS + ROOM_BEYOND) * sizeof(uint32_t));
-        open_room(&lent[i].words, (WORDS + ROOM_BEYOND) * sizeof(uint64_t));
+        open_room(&lent[i].file, NESSFLURRY_MAX_FILE_SIZE + 1);
+        open_room(&lent[i].head, NESSFLURRY_HEAD_SIZE * sizeof(uint16_t));
+        open_room(&lent[i].line, NESSFLURRY_MAX_LAMPS + 1);
+        open_room(&lent[i].list, (NESSFLURRY_LIST_SIZE + ROOM_BEYOND) * sizeof(uint32_t));
+        open_room(&lent[i].words, (NESSFLURRY_WORDS_SIZE + ROOM_BEYOND) * sizeof(uint64_t));
     }
+}
+
+/* The copy that is lent; nothing may be lent as NULL. */
+static void *lend_or_null(struct lent *to, enum lendable what, const void *content, size_t content_size)
+{
+    void *at = lend(to, content, content_size, at_end);
+    if (content_size > 0 || !empty_is_null)
+        return at;
+    count_null(what);
+    return NULL;
 }
 
 void take_file(const struct file *file, struct random *random)
@@ -32,8 +42,9 @@ void take_file(const struct file *file, struct random *random)
     place.file = file;
     size = file->size;
     at_end = one_in(random, 2);
+    empty_is_null = one_in(random, 2);
     for (int i = 0; i < SIDES; i++)
-        bytes[i] = lend(&lent[i].file, file->bytes, size, at_end);
+        bytes[i] = lend_or_null(&lent[i].file, JOB_FILE, file->bytes, size);
 }
 
 static void place_call(enum operation operation, uint64_t first, uint64_t second, uint64_t third)
@@ -50,13 +61,13 @@ static uint64_t settle(const uint64_t answers[SIDES])
     count_answer(place.operation, answers[NESSFLURRY]);
     demand_equal(answers[NESSFLURRY], answers[PLAIN]);
     for (int i = 0; i < SIDES; i++)
-        demand(memcmp(bytes[i], place.file->bytes, size) == 0 && guard_holds(&lent[i].file), "the file as it was");
+        demand(memcmp(lent[i].file.at, place.file->bytes, size) == 0 && guard_holds(&lent[i].file), "the file as it was");
     return answers[NESSFLURRY];
 }
 
 uint64_t compare_read(struct random *random)
 {
-    uint16_t before[16], *heads[SIDES];
+    uint16_t before[NESSFLURRY_HEAD_SIZE], *heads[SIDES];
     uint64_t answers[SIDES];
     random_bytes(random, before, sizeof before);
     place_call(READ, 0, 0, 0);
@@ -66,7 +77,7 @@ uint64_t compare_read(struct random *random)
     }
     settle(answers);
     for (int i = 0; i < SIDES; i++) {
-        bool refused = nessflurry_refusal(answers[i]) != 0;
+        bool refused = nessflurry_code_of(answers[i]) == NESSFLURRY_REFUSED;
         demand(guard_holds(&lent[i].head), "nothing written beside the head");
         demand(!refused || memcmp(heads[i], before, sizeof before) == 0, "the head as it was, if refused");
     }
@@ -108,31 +119,32 @@ uint64_t compare_run(uint8_t start, const uint8_t *line, size_t lamps, uint32_t 
     uint64_t answers[SIDES];
     place_call(RUN, start, lamps, limit);
     for (int i = 0; i < SIDES; i++) {
-        const uint8_t *lamp_kinds = lend(&lent[i].line, line, lamps, at_end);
+        const uint8_t *lamp_kinds = lend_or_null(&lent[i].line, LINE, line, lamps);
         answers[i] = sides[i].run(bytes[i], size, start, lamp_kinds, lamps, limit);
-        demand(memcmp(lamp_kinds, line, lamps) == 0 && guard_holds(&lent[i].line), "the line as it was");
+        demand(memcmp(lent[i].line.at, line, lamps) == 0 && guard_holds(&lent[i].line), "the line as it was");
     }
     return settle(answers);
 }
 
 static struct {
-    uint8_t line[LINE_BYTES + ROOM_BEYOND];
-    uint32_t list[LIST_NUMBERS + ROOM_BEYOND];
-    uint64_t words[WORDS + ROOM_BEYOND];
+    uint8_t line[NESSFLURRY_LINE_SIZE + ROOM_BEYOND];
+    uint32_t list[NESSFLURRY_LIST_SIZE + ROOM_BEYOND];
+    uint64_t words[NESSFLURRY_WORDS_SIZE + ROOM_BEYOND];
 } before;
 
 static uint64_t lend_and_check(check_call *check, int i, struct sizes sizes)
 {
-    uint8_t *line = lend(&lent[i].line, before.line, sizes.line, at_end);
-    uint32_t *list = lend(&lent[i].list, before.list, sizes.list * sizeof *list, at_end);
-    uint64_t *words = lend(&lent[i].words, before.words, sizes.words * sizeof *words, at_end);
+    uint8_t *line = lend_or_null(&lent[i].line, LINE_BUFFER, before.line, sizes.line);
+    uint32_t *list = lend_or_null(&lent[i].list, WORKING_LIST, before.list, sizes.list * sizeof *list);
+    uint64_t *words = lend_or_null(&lent[i].words, WORKING_WORDS, before.words, sizes.words * sizeof *words);
     return check(bytes[i], size, line, sizes.line, list, sizes.list, words, sizes.words);
 }
 
 /* The lamps of the failing line, as far as the lent buffer goes. */
 static size_t written(uint64_t answer, size_t room)
 {
-    size_t lamps = nessflurry_code(answer) == NESSFLURRY_GOAL ? 0 : nessflurry_count(answer);
+    uint8_t code = nessflurry_code_of(answer);
+    size_t lamps = code == NESSFLURRY_ACCEPTED || code == NESSFLURRY_REFUSED ? 0 : nessflurry_lamps_of(answer);
     demand(lamps <= room, "a failing line that the buffer holds");
     return lamps <= room ? lamps : room;
 }
@@ -142,10 +154,10 @@ static void judge_buffers(int i, struct sizes sizes, uint64_t answer)
 {
     size_t lamps = written(answer, sizes.line);
     const uint8_t *line = lent[i].line.at;
-    demand(memcmp(line + lamps, before.line + lamps, sizes.line - lamps) == 0, "the line buffer as it was, behind the line");
+    demand(memcmp(line + lamps, before.line + lamps, sizes.line - lamps) == 0, "the line buffer as it was, after the line");
     demand(guard_holds(&lent[i].line) && guard_holds(&lent[i].list) && guard_holds(&lent[i].words),
            "nothing written beside the buffers of a check");
-    if (nessflurry_refusal(answer) == 0)
+    if (nessflurry_code_of(answer) != NESSFLURRY_REFUSED)
         return;
     demand(memcmp(lent[i].list.at, before.list, sizes.list * sizeof *before.list) == 0, "the list as it was, if refused");
     demand(memcmp(lent[i].words.at, before.words, sizes.words * sizeof *before.words) == 0, "the words as they were, if refused");
@@ -163,7 +175,7 @@ static uint64_t compare_checks(check_call *const checks[SIDES], struct sizes siz
     settle(answers);
     for (int i = 0; i < SIDES; i++)
         judge_buffers(i, sizes, answers[i]);
-    size_t lamps = written(answers[NESSFLURRY], sizes.line < LINE_BYTES ? sizes.line : LINE_BYTES);
+    size_t lamps = written(answers[NESSFLURRY], sizes.line < NESSFLURRY_LINE_SIZE ? sizes.line : NESSFLURRY_LINE_SIZE);
     demand(memcmp(lent[NESSFLURRY].line.at, lent[PLAIN].line.at, lamps) == 0, "equal failing lines");
     memcpy(failing, lent[NESSFLURRY].line.at, lamps);
     return answers[NESSFLURRY];

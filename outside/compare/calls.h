@@ -1,5 +1,5 @@
 /*
- * Calls of each operation on both sides with the same things lent to each. A call is compared in its answer and in every lent
+ * Calls of each operation on both sides with equal things lent to each. A call is compared in its answer and in every lent
  * byte, and counted; what it gives back is the product's answer.
  */
 #ifndef OUTSIDE_CALLS_H
@@ -22,7 +22,7 @@ uint64_t compare_report(uint8_t state, uint16_t lamps, uint8_t result);
 
 /*
  * The check, with random content in the buffers before. Each is at most ROOM_BEYOND elements larger than is enough for every
- * job. Where the check fails, the line is written to `failing`, of LINE_BYTES.
+ * job. Where the check fails, the line is written to `failing`, of NESSFLURRY_LINE_SIZE.
  */
 enum { ROOM_BEYOND = 100 };
 uint64_t compare_check(struct sizes sizes, uint8_t *failing, struct random *random);

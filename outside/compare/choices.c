@@ -17,8 +17,8 @@ uint8_t any_start(const struct job *job, struct random *random)
 static size_t choose_lamps(struct random *random)
 {
     switch (below(random, 100)) {
-    case 0: return below(random, MOST_LAMPS + 1);
-    case 1: return MOST_LAMPS + below(random, 2);
+    case 0: return below(random, NESSFLURRY_MAX_LAMPS + 1);
+    case 1: return NESSFLURRY_MAX_LAMPS + below(random, 2);
     default: return below(random, 21);
     }
 }
@@ -32,7 +32,7 @@ static uint8_t no_kind(const struct job *job, struct random *random)
     }
 }
 
-size_t choose_line(const struct job *job, struct random *random, uint8_t line[MOST_LAMPS + 1])
+size_t choose_line(const struct job *job, struct random *random, uint8_t line[NESSFLURRY_MAX_LAMPS + 1])
 {
     size_t lamps = choose_lamps(random);
     choose_kinds(job, random, line, lamps);

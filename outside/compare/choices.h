@@ -6,8 +6,6 @@
 
 #include "calls.h"
 
-enum { MOST_LAMPS = 65535 }; /* of a line */
-
 /* A number that is mostly below the count, and sometimes not. */
 uint8_t about(struct random *random, uint32_t count);
 
@@ -15,9 +13,9 @@ uint8_t about(struct random *random, uint32_t count);
 uint8_t any_start(const struct job *job, struct random *random);
 
 /* A line as anyone might hand it in: sometimes with a kind that no lamp has, sometimes too long. Answers its lamps. */
-size_t choose_line(const struct job *job, struct random *random, uint8_t line[MOST_LAMPS + 1]);
+size_t choose_line(const struct job *job, struct random *random, uint8_t line[NESSFLURRY_MAX_LAMPS + 1]);
 
-/* Buffers of a check: as large as the job needs them, or larger; and too few elements where so many are needed. */
+/* Sizes for a check: as large as the job needs them, or larger; and one that is smaller than needed. */
 struct sizes enough_or_more(const struct job *job, struct random *random);
 size_t too_few(size_t needed, struct random *random);
 

@@ -15,6 +15,7 @@
 #include "tally.h"
 #include "trials.h"
 
+#include <inttypes.h>
 #include <signal.h>
 #include <stdio.h>
 #include <stdlib.h>
@@ -24,7 +25,7 @@ enum { PATIENCE_SECONDS = 60 };
 
 static void try_sound(struct trial *trial)
 {
-    demand(nessflurry_refusal(compare_read(&trial->random)) == 0, "no refusal of a sound file");
+    demand(nessflurry_code_of(compare_read(&trial->random)) == NESSFLURRY_DONE, "no refusal of a sound file");
     try_walks(trial);
     for (int more = 0; more < 4; more++)
         try_run(trial);
@@ -108,12 +109,16 @@ static void try_large(void)
         size_t used = try_check_alone(take_trial(number));
         most = used > most ? used : most;
     }
-    printf("a check of the largest jobs takes at most %zu of %d bytes of stack\n", most, STACK_BYTES);
+    printf("a check of the largest jobs takes at most %zu of %d bytes of stack\n", most, NESSFLURRY_CHECK_STACK);
 }
 
 int main(int argc, char **argv)
 {
     struct numbers numbers = chosen_numbers(argc, argv);
+    if (nessflurry_version() != NESSFLURRY_VERSION) {
+        fprintf(stderr, "the library is of version %" PRIu32 ", the header of %d\n", nessflurry_version(), NESSFLURRY_VERSION);
+        return 2;
+    }
     open_rooms();
     catch_signals();
     try_large();

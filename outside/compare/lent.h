@@ -1,5 +1,5 @@
 /*
- * Memory to be lent to one side. What is lent lies right against a page that nobody may touch, behind it or before it, so that
+ * Memory to be lent to one side. What is lent lies right against a page that nobody may touch, after it or before it, so that
  * a read or write outside it traps there; on its other side stand guard bytes, so that a write is seen there.
  */
 #ifndef OUTSIDE_LENT_H
@@ -17,7 +17,7 @@ struct lent {
 /* Room for up to `most` bytes. */
 void open_room(struct lent *lent, size_t most);
 
-/* Lends a copy of the content, against the page behind the room or against that before it. */
+/* Lends a copy of the content, against the page after the room or against that before it. */
 void *lend(struct lent *lent, const void *content, size_t size, bool at_end);
 
 bool guard_holds(const struct lent *lent);

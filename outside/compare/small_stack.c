@@ -1,6 +1,8 @@
 #define _DEFAULT_SOURCE
 #include "small_stack.h"
 
+#include "nessflurry.h"
+
 #include <pthread.h>
 #include <signal.h>
 #include <stdbool.h>
@@ -26,23 +28,23 @@ static void demand_room(bool got)
 static uint8_t *open_stack(void)
 {
     size_t page = page_size();
-    uint8_t *whole = mmap(NULL, STACK_BYTES + 2 * page, PROT_NONE, MAP_PRIVATE | MAP_ANONYMOUS, -1, 0);
-    demand_room(whole != MAP_FAILED && mprotect(whole + page, STACK_BYTES, PROT_READ | PROT_WRITE) == 0);
+    uint8_t *whole = mmap(NULL, NESSFLURRY_CHECK_STACK + 2 * page, PROT_NONE, MAP_PRIVATE | MAP_ANONYMOUS, -1, 0);
+    demand_room(whole != MAP_FAILED && mprotect(whole + page, NESSFLURRY_CHECK_STACK, PROT_READ | PROT_WRITE) == 0);
     return whole + page;
 }
 
 static void close_stack(uint8_t *stack)
 {
     size_t page = page_size();
-    munmap(stack - page, STACK_BYTES + 2 * page);
+    munmap(stack - page, NESSFLURRY_CHECK_STACK + 2 * page);
 }
 
 /* The lowest page that was touched: what nobody has touched is not in memory. */
 static uint8_t *lowest_touched(uint8_t *stack)
 {
-    unsigned char in_memory[STACK_BYTES / 1024]; /* a page has more than 1,024 bytes */
+    unsigned char in_memory[NESSFLURRY_CHECK_STACK / 1024]; /* a page has more than 1,024 bytes */
     size_t page = page_size(), lowest = 0;
-    demand_room(mincore(stack, STACK_BYTES, in_memory) == 0);
+    demand_room(mincore(stack, NESSFLURRY_CHECK_STACK, in_memory) == 0);
     while ((in_memory[lowest] & 1) == 0)
         lowest++;
     return stack + lowest * page;
@@ -76,7 +78,7 @@ size_t on_small_stack(void (*work)(void *), void *with)
     uint8_t *stack = open_stack();
     pthread_attr_t attributes;
     pthread_t thread;
-    demand_room(pthread_attr_init(&attributes) == 0 && pthread_attr_setstack(&attributes, stack, STACK_BYTES) == 0
+    demand_room(pthread_attr_init(&attributes) == 0 && pthread_attr_setstack(&attributes, stack, NESSFLURRY_CHECK_STACK) == 0
                 && pthread_create(&thread, &attributes, do_task, &task) == 0 && pthread_join(thread, NULL) == 0);
     size_t used = (size_t)(task.top - lowest_touched(stack));
     pthread_attr_destroy(&attributes);

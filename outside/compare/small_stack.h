@@ -7,8 +7,6 @@
 
 #include <stddef.h>
 
-enum { STACK_BYTES = 256 * 1024 };
-
 /* Does the work, and waits for its end. Answers how many bytes of stack it took, the last page whole. */
 size_t on_small_stack(void (*work)(void *), void *with);
 

@@ -32,7 +32,7 @@ static const struct {
     [BEGIN] = {"begin", {"lamps"}, {"begun"}, NUMBERS(1, 11)},
     [ACTION] = {"action",
                 {"state", "lamps"},
-                {[NESSFLURRY_GOAL] = "action", [NESSFLURRY_ENDED] = "ended"},
+                {[NESSFLURRY_ACTION] = "action", [NESSFLURRY_ENDED] = "ended"},
                 NUMBERS(1, 11) | NUMBERS(16, 16)},
     [REPORT] = {"report", {"state", "lamps", "result"}, {"taken"}, NUMBERS(1, 11) | NUMBERS(16, 19)},
 };
@@ -45,6 +45,11 @@ static struct {
 
 static uint64_t compared, differing;
 static uint32_t most_pairs, longest_failing_line;
+
+static const char *const lendable_names[LENDABLE] = {"file", "line", "line buffer", "list", "words"};
+static uint64_t nulls[LENDABLE];
+
+void count_null(enum lendable what) { nulls[what]++; }
 
 /* The job of the first difference, in a form that the product's program and example read. */
 static void keep_job(void)
@@ -91,25 +96,36 @@ void demand_equal(uint64_t nessflurry, uint64_t plain)
 
 static void note_extremes(uint64_t answer)
 {
-    uint32_t *most = nessflurry_code(answer) == NESSFLURRY_GOAL ? &most_pairs : &longest_failing_line;
-    if (nessflurry_count(answer) > *most)
-        *most = nessflurry_count(answer);
+    bool accepted = nessflurry_code_of(answer) == NESSFLURRY_ACCEPTED;
+    uint32_t *most = accepted ? &most_pairs : &longest_failing_line;
+    uint32_t count = accepted ? nessflurry_pairs_of(answer) : nessflurry_lamps_of(answer);
+    if (count > *most)
+        *most = count;
+}
+
+/* Beside refusal and code a refused report has a state and lamps, and nothing else has anything. */
+static void count_refusal(enum operation operation, uint64_t answer)
+{
+    const uint64_t others = operation == REPORT ? (uint64_t)0xFF << 24 | (uint64_t)0xFFFF << 48 : UINT64_MAX << 16;
+    uint8_t refusal = nessflurry_refusal_of(answer);
+    bool has = refusal < REFUSALS && known[operation].refusals >> refusal & 1;
+    demand(has, "a refusal that the operation has");
+    demand((answer & others) == 0, "nothing beside the refusal");
+    counts[operation].refused[has ? refusal : 0]++;
 }
 
 void count_answer(enum operation operation, uint64_t answer)
 {
-    uint8_t refusal = nessflurry_refusal(answer), code = nessflurry_code(answer);
+    uint8_t code = nessflurry_code_of(answer);
     compared++;
     counts[operation].calls++;
-    if (refusal != 0) {
-        bool has = refusal < REFUSALS && known[operation].refusals >> refusal & 1;
-        demand(has, "a refusal that the operation has");
-        demand(operation == REPORT || answer >> 8 == 0, "nothing beside the refusal");
-        counts[operation].refused[has ? refusal : 0]++;
+    if (code == NESSFLURRY_REFUSED) {
+        count_refusal(operation, answer);
         return;
     }
     bool has = code < CODES && known[operation].codes[code] != NULL;
     demand(has, "a code that the operation has");
+    demand(nessflurry_refusal_of(answer) == 0, "no refusal beside another code");
     counts[operation].answered[has ? code : 0]++;
     if (operation == CHECK)
         note_extremes(answer);
@@ -132,7 +148,10 @@ void print_tally(void)
 {
     for (enum operation operation = READ; operation < OPERATIONS; operation++)
         print_operation(operation);
-    printf("most pairs reached %" PRIu32 ", longest failing line %" PRIu32 " lamps\n", most_pairs, longest_failing_line);
+    printf("lent as NULL:");
+    for (enum lendable what = JOB_FILE; what < LENDABLE; what++)
+        printf("%s %s %" PRIu64, what == JOB_FILE ? "" : ",", lendable_names[what], nulls[what]);
+    printf("\nmost pairs reached %" PRIu32 ", longest failing line %" PRIu32 " lamps\n", most_pairs, longest_failing_line);
 }
 
 static bool seen(enum operation operation)
@@ -156,6 +175,11 @@ bool all_seen(void)
     bool all = true;
     for (enum operation operation = READ; operation < OPERATIONS; operation++)
         all = seen(operation) && all;
+    for (enum lendable what = JOB_FILE; what < LENDABLE; what++)
+        if (nulls[what] == 0) {
+            printf("never seen: NULL for %s\n", lendable_names[what]);
+            all = false;
+        }
     return all;
 }
 

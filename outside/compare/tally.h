@@ -20,13 +20,17 @@ extern struct place place;
 /* Counts one compared call by what it answered, which has to be an answer that the operation has. */
 void count_answer(enum operation operation, uint64_t answer);
 
+/* Counts something that is lent as NULL, because it is empty. */
+enum lendable { JOB_FILE, LINE, LINE_BUFFER, WORKING_LIST, WORKING_WORDS, LENDABLE };
+void count_null(enum lendable what);
+
 /* Counts a difference, and tells of the first: what was demanded, and what the sides answered. */
 void demand(bool holds, const char *demanded);
 void demand_equal(uint64_t nessflurry, uint64_t plain);
 
 void print_tally(void);
 
-/* Whether every answer and every refusal of every operation has been seen; names those that have not. */
+/* Whether every answer and every refusal of every operation, and each thing as NULL, have been seen; names what has not. */
 bool all_seen(void);
 
 uint64_t differences(void);

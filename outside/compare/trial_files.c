@@ -6,7 +6,7 @@
 
 static void resize_bench(struct trial *trial, uint32_t which)
 {
-    const size_t largest[] = {MOST_BYTES - 1, MOST_BYTES, MOST_BYTES + 1};
+    const size_t largest[] = {NESSFLURRY_MAX_FILE_SIZE - 1, NESSFLURRY_MAX_FILE_SIZE, NESSFLURRY_MAX_FILE_SIZE + 1};
     resize(&trial->file, which < BENCH_BYTES + 32 ? which : largest[which - BENCH_BYTES - 32], &trial->random);
 }
 

@@ -21,7 +21,7 @@ static uint16_t lamps_left(const struct execution *at) { return (uint16_t)(at->l
 
 static bool is_at(const struct execution *at, uint64_t cabinet)
 {
-    return nessflurry_state(cabinet) == at->state && nessflurry_count(cabinet) == lamps_left(at);
+    return nessflurry_state_of(cabinet) == at->state && nessflurry_lamps_of(cabinet) == lamps_left(at);
 }
 
 /* The result of the action that is due, or NONE where there is none: in state S, and where the action is not legal. */
@@ -43,24 +43,24 @@ static void step(struct execution *at, uint8_t result)
 static uint8_t report_refusal(const struct execution *at, uint8_t result)
 {
     if (at->state == at->job->states)
-        return 17;
+        return NESSFLURRY_REFUSED_AFTER_END;
     if (result >= at->job->results || at->job->target[at->state][result] == NONE)
-        return 18;
-    return at->job->marks[at->job->action[at->state]] && lamps_left(at) == 0 ? 19 : 0;
+        return NESSFLURRY_REFUSED_RESULT;
+    return at->job->marks[at->job->action[at->state]] && lamps_left(at) == 0 ? NESSFLURRY_REFUSED_NO_LAMP : 0;
 }
 
 static void expect_action(const struct execution *at)
 {
     uint64_t answer = compare_action(at->state, lamps_left(at));
-    bool ended = nessflurry_code(answer) == NESSFLURRY_ENDED;
-    demand(nessflurry_refusal(answer) == 0 && ended == (at->state == at->job->states), "ended in state S, and not before");
-    demand(ended || nessflurry_state(answer) == at->job->action[at->state], "the action of the execution's next step");
+    bool ended = at->state == at->job->states;
+    demand(nessflurry_code_of(answer) == (ended ? NESSFLURRY_ENDED : NESSFLURRY_ACTION), "ended in state S, and not before");
+    demand(ended || nessflurry_action_of(answer) == at->job->action[at->state], "the action of the execution's next step");
 }
 
 static void expect_refused(const struct execution *at, uint8_t result)
 {
     uint64_t answer = compare_report(at->state, lamps_left(at), result);
-    demand(nessflurry_refusal(answer) == report_refusal(at, result), "the refusal of this report");
+    demand(nessflurry_refusal_of(answer) == report_refusal(at, result), "the refusal of this report");
     demand(is_at(at, answer), "the old state, from a refused report");
 }
 
@@ -74,12 +74,12 @@ static void disturb(const struct execution *at, struct random *random)
         expect_refused(at, result);
 }
 
-/* Goes along the line, so many steps at most; answers whether the execution ends within them. */
+/* Goes along the line, for most_steps at most; answers whether the execution ends within them. */
 static bool lead(struct execution *at, struct random *random, int most_steps)
 {
     uint64_t cabinet = compare_begin((uint16_t)at->lamps);
     for (int steps = 0; steps <= most_steps; steps++) {
-        demand(nessflurry_refusal(cabinet) == 0, "no refusal of a result that the tables give");
+        demand(nessflurry_code_of(cabinet) == NESSFLURRY_DONE, "no refusal of a result that the tables give");
         demand(is_at(at, cabinet), "the execution's program state and lamps left");
         disturb(at, random);
         uint8_t result = due_result(at);

@@ -6,9 +6,9 @@
 #include "tally.h"
 #include "trials.h"
 
-static uint8_t line[MOST_LAMPS + 1], failing_line[LINE_BYTES];
+static uint8_t line[NESSFLURRY_MAX_LAMPS + 1], failing_line[NESSFLURRY_LINE_SIZE];
 
-static bool ends_in(uint64_t answer, uint8_t code) { return nessflurry_refusal(answer) == 0 && nessflurry_code(answer) == code; }
+static bool ends_in(uint64_t answer, uint8_t code) { return nessflurry_code_of(answer) == code; }
 
 /* A limit that no run of the line reaches, if such a run takes a moment at most; else one that keeps it to a moment. */
 static uint32_t high_limit(const struct job *job, size_t lamps)
@@ -20,10 +20,10 @@ static uint32_t high_limit(const struct job *job, size_t lamps)
 static void try_limit(uint8_t start, const uint8_t *kinds, size_t lamps, uint32_t limit, uint64_t ending)
 {
     uint64_t answer = compare_run(start, kinds, lamps, limit);
-    if (limit >= nessflurry_count(ending))
+    if (limit >= nessflurry_steps_of(ending))
         demand(answer == ending, "the same ending within the limit");
     else
-        demand(ends_in(answer, NESSFLURRY_STOPPED) && nessflurry_count(answer) == limit, "stopped at the limit");
+        demand(ends_in(answer, NESSFLURRY_STOPPED) && nessflurry_steps_of(answer) == limit, "stopped at the limit");
 }
 
 void try_run(struct trial *trial)
@@ -32,9 +32,9 @@ void try_run(struct trial *trial)
     uint8_t start = any_start(&trial->job, random);
     size_t lamps = choose_line(&trial->job, random, line);
     uint64_t ending = compare_run(start, line, lamps, high_limit(&trial->job, lamps));
-    if (nessflurry_refusal(ending) != 0 || ends_in(ending, NESSFLURRY_STOPPED))
+    if (ends_in(ending, NESSFLURRY_REFUSED) || ends_in(ending, NESSFLURRY_STOPPED))
         return;
-    uint32_t steps = nessflurry_count(ending);
+    uint32_t steps = nessflurry_steps_of(ending);
     uint32_t any = (uint32_t)random_word(random), less = below(random, steps + 1);
     const uint32_t limits[] = {0, 1, steps, steps - 1, steps + 1, UINT32_MAX, any, less};
     for (int more = 0; more < 3; more++)
@@ -53,7 +53,8 @@ void try_short_buffers(struct trial *trial)
     if (which & 4)
         sizes.words = too_few(needed.words, random);
     uint64_t answer = compare_check(sizes, failing_line, random);
-    demand(nessflurry_refusal(answer) == (which & 1 ? 12 : 13), "12 for a short line buffer, else 13");
+    uint8_t due = which & 1 ? NESSFLURRY_REFUSED_LINE_BUFFER : NESSFLURRY_REFUSED_WORK_BUFFERS;
+    demand(nessflurry_refusal_of(answer) == due, "the refusal of a short line buffer, else that of list and words");
 }
 
 /* The run of a line that cannot fail by what the check has answered. */
@@ -68,7 +69,7 @@ static void expect_goal(struct trial *trial, uint8_t start, size_t lamps)
 static void follow_accepted(struct trial *trial)
 {
     for (int more = 0; more < 3; more++) {
-        size_t lamps = below(&trial->random, one_in(&trial->random, 100) ? MOST_LAMPS + 1 : 40);
+        size_t lamps = below(&trial->random, one_in(&trial->random, 100) ? NESSFLURRY_MAX_LAMPS + 1 : 40);
         choose_kinds(&trial->job, &trial->random, line, lamps);
         expect_goal(trial, marked_start(&trial->job, &trial->random), lamps);
     }
@@ -103,16 +104,17 @@ static void try_earlier(struct trial *trial, uint8_t failing_start, uint32_t lam
 
 static void follow_failed(struct trial *trial, uint64_t failed)
 {
-    uint8_t start = nessflurry_state(failed);
-    uint32_t lamps = nessflurry_count(failed), most = (uint32_t)trial->job.states * trial->job.worlds + 1;
+    uint8_t start = nessflurry_start_of(failed);
+    uint32_t lamps = nessflurry_lamps_of(failed), most = (uint32_t)trial->job.states * trial->job.worlds + 1;
     demand(lamps <= most, "a failing line of at most S·W + 1 lamps");
     if (lamps > most)
         return;
     uint64_t ending = compare_run(start, failing_line, lamps, UINT32_MAX);
-    demand(ends_in(ending, nessflurry_code(failed)), "the named failure, from the run of the failing line");
-    try_limit(start, failing_line, lamps, nessflurry_count(ending), ending);
-    if (nessflurry_count(ending) > 0)
-        try_limit(start, failing_line, lamps, nessflurry_count(ending) - 1, ending);
+    demand(ends_in(ending, nessflurry_code_of(failed)), "the named failure, from the run of the failing line");
+    uint32_t steps = nessflurry_steps_of(ending);
+    try_limit(start, failing_line, lamps, steps, ending);
+    if (steps > 0)
+        try_limit(start, failing_line, lamps, steps - 1, ending);
     if (lamps > 0) {
         try_shorter(trial, lamps);
         try_earlier(trial, start, lamps);
@@ -122,7 +124,7 @@ static void follow_failed(struct trial *trial, uint64_t failed)
 bool try_check(struct trial *trial)
 {
     uint64_t answer = compare_check(enough_or_more(&trial->job, &trial->random), failing_line, &trial->random);
-    bool accepted = ends_in(answer, NESSFLURRY_GOAL);
+    bool accepted = ends_in(answer, NESSFLURRY_ACCEPTED);
     if (accepted)
         follow_accepted(trial);
     else

@@ -8,7 +8,7 @@
 
 static void expect_due(const struct trial *trial, uint64_t answer)
 {
-    demand(trial->due == 0 || nessflurry_refusal(answer) == trial->due, "the lowest refusal that is due for the file");
+    demand(trial->due == 0 || nessflurry_refusal_of(answer) == trial->due, "the lowest refusal that is due for the file");
 }
 
 static void try_walk(struct trial *trial)
@@ -42,13 +42,14 @@ void try_cabinet_calls(struct trial *trial)
     expect_due(trial, compare_action(state, lamps));
     uint64_t answer = compare_report(state, lamps, result);
     expect_due(trial, answer);
-    if (nessflurry_refusal(answer) != 0)
-        demand(nessflurry_state(answer) == state && nessflurry_count(answer) == lamps, "the old state, from a refused report");
+    if (nessflurry_code_of(answer) == NESSFLURRY_REFUSED)
+        demand(nessflurry_state_of(answer) == state && nessflurry_lamps_of(answer) == lamps,
+               "the old state, from a refused report");
 }
 
 static void try_any_run(struct trial *trial)
 {
-    static uint8_t line[MOST_LAMPS + 1];
+    static uint8_t line[NESSFLURRY_MAX_LAMPS + 1];
     size_t lamps = choose_line(&trial->job, &trial->random, line);
     uint8_t start = any_start(&trial->job, &trial->random);
     expect_due(trial, compare_run(start, line, lamps, below(&trial->random, 1000)));
@@ -57,7 +58,7 @@ static void try_any_run(struct trial *trial)
 /* The file's refusal comes before those of the buffers. */
 static void try_any_check(struct trial *trial)
 {
-    static uint8_t failing_line[LINE_BYTES];
+    static uint8_t failing_line[NESSFLURRY_LINE_SIZE];
     struct sizes sizes = enough_or_more(&trial->job, &trial->random);
     if (trial->due != 0 && one_in(&trial->random, 2))
         sizes = (struct sizes){0, 0, 0};

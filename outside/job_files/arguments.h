@@ -9,7 +9,7 @@
 /* A start that the job marks. */
 uint8_t marked_start(const struct job *job, struct random *random);
 
-/* Lamp kinds that the job has: any mixture, or one kind all along. */
+/* Lamp kinds that the job has: any mixture, or the same kind all along. */
 void choose_kinds(const struct job *job, struct random *random, uint8_t *line, size_t lamps);
 
 /* Sizes of the buffers that a check is lent, in elements; and those that the job needs. */
@@ -17,8 +17,5 @@ struct sizes {
     size_t line, list, words;
 };
 struct sizes enough(const struct job *job);
-
-/* Buffers that are enough for every job. */
-enum { LINE_BYTES = 4097, LIST_NUMBERS = 4160, WORDS = 65 };
 
 #endif

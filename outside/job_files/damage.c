@@ -23,7 +23,7 @@ void resize(struct file *file, size_t size, struct random *random)
 static bool wrong_size(struct file *file, const struct job *job, struct random *random)
 {
     (void)job;
-    resize(file, one_in(random, 3) ? MOST_BYTES + 1 : below(random, 28), random);
+    resize(file, one_in(random, 3) ? NESSFLURRY_MAX_FILE_SIZE + 1 : below(random, 28), random);
     return true;
 }
 
@@ -40,19 +40,19 @@ static bool wrong_offset(struct file *file, enum part part, struct random *rando
 {
     uint32_t length = part_length(file, part);
     uint32_t before = part == MARKS ? 28 : part_end(file, part - 1);
-    const uint32_t offsets[] = {before - 1, (uint32_t)file->size + 1 - length, MOST_BYTES, 0, 27, below(random, 28)};
+    const uint32_t offsets[] = {before - 1, (uint32_t)file->size + 1 - length, UINT16_MAX, 0, 27, below(random, 28)};
     uint32_t offset = offsets[below(random, 6)];
     bool misplaced = offset < before || offset + length > file->size;
-    if (misplaced && offset <= MOST_BYTES)
+    if (misplaced && offset <= UINT16_MAX)
         set_pair(file, part, (uint16_t)offset, (uint16_t)length);
-    return misplaced && offset <= MOST_BYTES;
+    return misplaced && offset <= UINT16_MAX;
 }
 
 static bool wrong_end(struct file *file, enum part part, struct random *random)
 {
     uint32_t offset = part_offset(file, part);
     uint32_t after = part == PLAN ? (uint32_t)file->size : part_offset(file, part + 1);
-    const uint32_t lengths[] = {after + 1 - offset, (uint32_t)file->size + 1 - offset, MOST_BYTES};
+    const uint32_t lengths[] = {after + 1 - offset, (uint32_t)file->size + 1 - offset, UINT16_MAX};
     set_pair(file, part, (uint16_t)offset, (uint16_t)lengths[below(random, 3)]);
     return true;
 }

@@ -1,5 +1,5 @@
 /*
- * Damage to job files: each defect that document 01 gives a number from 1 to 11, alone and several at once.
+ * Damage to job files: each defect that has a refusal from 1 to 11, alone and several at once.
  */
 #ifndef OUTSIDE_DAMAGE_H
 #define OUTSIDE_DAMAGE_H
@@ -15,7 +15,7 @@ unsigned damage(struct file *file, const struct job *job, struct random *random)
 /* Overwrites a few bytes, wherever they are; what the reader owes then is not known. */
 void scramble(struct file *file, struct random *random);
 
-/* The file cut or lengthened by random bytes to a size of up to MOST_BYTES + 1. */
+/* The file cut or lengthened by random bytes to a size of up to NESSFLURRY_MAX_FILE_SIZE + 1. */
 void resize(struct file *file, size_t size, struct random *random);
 
 #endif

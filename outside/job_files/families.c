@@ -16,7 +16,7 @@ static uint8_t number(struct random *random, uint8_t least, uint8_t most)
     }
 }
 
-/* At least so many actions, results and states. */
+/* Of actions, results and states at least these. */
 static void choose_numbers(struct job *job, struct random *random, uint8_t actions, uint8_t results, uint8_t states)
 {
     job->actions = number(random, actions, MOST_ACTIONS);
@@ -45,7 +45,7 @@ static uint32_t bytes_without_gaps(const struct job *job)
 
 static void choose_gaps(struct job *job, struct random *random)
 {
-    uint32_t room = MOST_BYTES - bytes_without_gaps(job);
+    uint32_t room = NESSFLURRY_MAX_FILE_SIZE - bytes_without_gaps(job);
     for (int part = 0; part <= PARTS; part++) {
         uint32_t most = room < 3 || one_in(random, 40) ? room : 3;
         job->gap[part] = (uint16_t)below(random, most + 1);

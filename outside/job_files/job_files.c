@@ -88,7 +88,16 @@ void write_file(struct file *file, const struct job *job, struct random *random)
     file->size = at + job->gap[PARTS];
 }
 
-/* ---- Tables ---- */
+/* ---- Numbers and tables ---- */
+
+void set_numbers(struct job *job, struct job_numbers numbers)
+{
+    job->actions = numbers.actions;
+    job->worlds = numbers.worlds;
+    job->kinds = numbers.kinds;
+    job->results = numbers.results;
+    job->states = numbers.states;
+}
 
 void clear_tables(struct job *job)
 {
@@ -101,6 +110,14 @@ void clear_tables(struct job *job)
         for (int world = 0; world < MOST_WORLDS; world++)
             for (int column = 0; column <= MOST_KINDS; column++)
                 job->cells[action][world][column] = (struct cell){0, NONE};
+}
+
+/* With no gaps, and state 0 first. */
+static void empty_job(struct job *job, struct job_numbers numbers)
+{
+    memset(job, 0, sizeof *job);
+    set_numbers(job, numbers);
+    clear_tables(job);
 }
 
 static void set_row(struct job *job, uint8_t state, uint8_t action, uint8_t if_0, uint8_t if_1)
@@ -135,13 +152,7 @@ static struct cell bench_cell(int action, uint8_t world, uint8_t column)
 
 static void bench_tables(struct job *job)
 {
-    memset(job, 0, sizeof *job);
-    clear_tables(job);
-    job->actions = 4;
-    job->worlds = 3;
-    job->kinds = 2;
-    job->results = 2;
-    job->states = 4;
+    empty_job(job, (struct job_numbers){.actions = 4, .worlds = 3, .kinds = 2, .results = 2, .states = 4});
     job->marks[NEXT] = 1;
     job->starts[CLEAR] = 1;
     job->goal[CLEAR][0] = 1;
@@ -184,13 +195,7 @@ enum { EXAMPLE_PEEK, EXAMPLE_NEXT };
 
 void example_job(struct job *job)
 {
-    memset(job, 0, sizeof *job);
-    clear_tables(job);
-    job->actions = 2;
-    job->worlds = 1;
-    job->kinds = 1;
-    job->results = 2;
-    job->states = 2;
+    empty_job(job, (struct job_numbers){.actions = 2, .worlds = 1, .kinds = 1, .results = 2, .states = 2});
     job->marks[EXAMPLE_NEXT] = 1;
     job->cells[EXAMPLE_PEEK][0][0] = (struct cell){0, 0};
     job->cells[EXAMPLE_PEEK][0][1] = (struct cell){0, 1};

@@ -5,21 +5,24 @@
 #ifndef OUTSIDE_JOB_FILES_H
 #define OUTSIDE_JOB_FILES_H
 
+#include "nessflurry.h"
 #include "random.h"
 
 /* The largest numbers that a job may have. */
 enum { MOST_ACTIONS = 16, MOST_WORLDS = 64, MOST_KINDS = 15, MOST_RESULTS = 8, MOST_STATES = 64 };
 
-/* The largest file that is not refused for its size. */
-enum { MOST_BYTES = 65535 };
-
-/* In a cell's result: not legal. In a plan's target: no branch. */
+/* As a cell's result: the action is not legal. As a plan's target: there is no branch. */
 enum { NONE = 255 };
 
 enum part { MARKS, CELLS, STARTS, GOAL, PLAN, PARTS };
 
 struct cell {
     uint8_t next, result;
+};
+
+/* A, W, C, R and S. */
+struct job_numbers {
+    uint8_t actions, worlds, kinds, results, states;
 };
 
 struct job {
@@ -30,13 +33,13 @@ struct job {
     uint8_t goal[MOST_WORLDS][MOST_KINDS + 1];
     uint8_t action[MOST_STATES];
     uint8_t target[MOST_STATES][MOST_RESULTS];
-    uint16_t gap[PARTS + 1]; /* bytes that mean nothing: before each part, and behind the last */
+    uint16_t gap[PARTS + 1]; /* bytes that mean nothing: before each part, and after the last */
 };
 
-/* One byte more than MOST_BYTES, for a file that is too large. */
+/* There is room for one byte too many, since a file may be too large. */
 struct file {
     size_t size;
-    uint8_t bytes[MOST_BYTES + 1];
+    uint8_t bytes[NESSFLURRY_MAX_FILE_SIZE + 1];
 };
 
 /* The file of a job. Gaps get random bytes. */
@@ -52,6 +55,9 @@ static inline uint32_t part_end(const struct file *file, enum part part)
     return (uint32_t)part_offset(file, part) + part_length(file, part);
 }
 
+/* The job's numbers; the rest stays. */
+void set_numbers(struct job *job, struct job_numbers numbers);
+
 /* Every cell not legal, every target missing, all other tables 0; the job's numbers and gaps stay. */
 void clear_tables(struct job *job);
 
@@ -63,8 +69,8 @@ enum bench_variant {
     BENCH_END_UNFORESEEN, /* state 0 to none,1 */
     BENCH_ENDS_AT_ONCE,   /* first state 4 */
     BENCH_FIRST_TEST,     /* first state 1 */
-    BENCH_FIVE_STATES,
-    BENCH_ONE_LATER, /* parts two to five each one later */
+    BENCH_FIVE_STATES,    /* a further peek after each lamp, with no branch for another lamp */
+    BENCH_ONE_LATER,      /* a byte between the first part and the second */
     BENCH_VARIANTS
 };
 void bench_line(struct job *job, enum bench_variant variant);

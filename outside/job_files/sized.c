@@ -3,24 +3,13 @@
  */
 #include "families.h"
 
-static const struct {
-    uint8_t actions, worlds, kinds, results, states;
-} numbers[SIZES] = {
+static const struct job_numbers numbers_of[SIZES] = {
     [SMALL] = {4, 6, 3, 4, 8},
     [MIDDLE] = {8, 24, 7, 8, 24},
     [FULL] = {MOST_ACTIONS, MOST_WORLDS, MOST_KINDS, MOST_RESULTS, MOST_STATES},
 };
 
-static void set_numbers(struct job *job, enum size size)
-{
-    job->actions = numbers[size].actions;
-    job->worlds = numbers[size].worlds;
-    job->kinds = numbers[size].kinds;
-    job->results = numbers[size].results;
-    job->states = numbers[size].states;
-}
-
-void largest_numbers(struct job *job) { set_numbers(job, FULL); }
+void largest_numbers(struct job *job) { set_numbers(job, numbers_of[FULL]); }
 
 const char *const size_names[SIZES] = {"small", "middle", "max"};
 const char *const sized_job_names[SIZED_JOBS] = {
@@ -67,7 +56,7 @@ static void put_failure(struct job *job, enum sized_job which)
 void sized_job(struct job *job, enum sized_job which, enum size size)
 {
     memset(job->gap, 0, sizeof job->gap);
-    set_numbers(job, size);
+    set_numbers(job, numbers_of[size]);
     make_tables(job, which, size);
     put_failure(job, which);
 }

@@ -40,7 +40,7 @@ static void digit_row(struct job *job, uint8_t state, uint8_t digits, uint8_t mo
     for (int result = PASSES; result < job->results; result++)
         job->target[state][result] = (uint8_t)(digits + (state + result) % movers);
     job->target[state][STAYS] = state;
-    job->target[state][WRAPS] = state + 1; /* behind the last digit comes the first state that moves on */
+    job->target[state][WRAPS] = state + 1; /* after the last digit comes the first state that moves on */
     job->target[state][job->results - 1] = job->states;
 }
 

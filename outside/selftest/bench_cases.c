@@ -5,7 +5,7 @@
 static void expect_accepted(const char *what, enum bench_variant variant, uint32_t pairs)
 {
     take_bench(variant);
-    expect(what, expect_as_brute(), ending(NESSFLURRY_GOAL, pairs));
+    expect(what, expect_as_brute(), ending(NESSFLURRY_ACCEPTED, pairs));
 }
 
 static void expect_failed(const char *what, enum bench_variant variant, unsigned kind, const uint8_t *line, uint32_t lamps,
@@ -53,11 +53,11 @@ static void expect_refused_with(const char *what, size_t place, uint8_t byte, un
 
 static void files(void)
 {
-    const uint16_t numbers[16] = {4, 3, 2, 2, 4, 0, 28, 4, 32, 72, 104, 3, 107, 9, 116, 12};
-    uint16_t head[16];
+    const uint16_t numbers[NESSFLURRY_HEAD_SIZE] = {4, 3, 2, 2, 4, 0, 28, 4, 32, 72, 104, 3, 107, 9, 116, 12};
+    uint16_t head[NESSFLURRY_HEAD_SIZE];
     take_bench(BENCH_G);
     expect("size of G", file.size, 128);
-    expect("the reader", plain_read(file.bytes, file.size, head), 0);
+    expect("the reader", plain_read(file.bytes, file.size, head), ending(NESSFLURRY_DONE, 0));
     expect("the reader's numbers", memcmp(head, numbers, sizeof head) == 0, true);
     expect_refused_with("C 16", 2, 16, 2);
     expect_refused_with("second offset 31", 12, 31, 3);
@@ -67,7 +67,7 @@ static void buffers(void)
 {
     take_bench(BENCH_G);
     expect_refused_check("line buffer 12", (struct sizes){12, 15, 1}, 12);
-    expect("line buffer 13", check_with((struct sizes){13, 15, 1}), ending(NESSFLURRY_GOAL, 1));
+    expect("line buffer 13", check_with((struct sizes){13, 15, 1}), ending(NESSFLURRY_ACCEPTED, 1));
     expect_refused_check("working list 14", (struct sizes){13, 14, 1}, 13);
 }
 

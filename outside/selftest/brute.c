@@ -1,6 +1,6 @@
 /*
- * Every line up to a length, each run on its own (01, Bench line G: "a plain search over all lines up to a length").
- * Nothing is kept from one line for the next but the set of pairs reached.
+ * Every line up to a length, each run on its own, as 01, Bench line G, asks for. Nothing is kept from one line for the next but
+ * the set of pairs reached.
  */
 #include "brute.h"
 #include "cases.h"
@@ -76,15 +76,15 @@ static bool next_line(uint8_t line[], uint32_t lamps)
     return false;
 }
 
-/* The lines of exactly so many lamps from one start: the failure of the first that fails, left in `line`, or Goal. */
+/* The lines of exactly this many lamps from one start: the failure of the first that fails, left in `line`, or Goal. */
 static unsigned try_lines(uint8_t start, uint32_t lamps, uint8_t line[], bool reached[BRUTE_PAIRS])
 {
     memset(line, 1, lamps);
     do {
         const uint64_t run = brute_run(start, line, lamps, reached);
         expect("each line's run", plain_run(file.bytes, file.size, start, line, lamps, UINT32_MAX), run);
-        if (nessflurry_code(run) != NESSFLURRY_GOAL)
-            return nessflurry_code(run);
+        if (nessflurry_code_of(run) != NESSFLURRY_GOAL)
+            return nessflurry_code_of(run);
     } while (next_line(line, lamps));
     return NESSFLURRY_GOAL;
 }
@@ -102,7 +102,7 @@ static uint32_t count_of(const bool reached[BRUTE_PAIRS])
  * number of pairs reached. By demand 3 no shortest failing line has more than S·W + 1 lamps; and S·W are enough to
  * reach every pair.
  */
-static uint64_t brute_check(uint8_t line[LINE_BYTES])
+static uint64_t brute_check(uint8_t line[NESSFLURRY_LINE_SIZE])
 {
     bool reached[BRUTE_PAIRS] = {false};
     for (uint32_t lamps = 0; lamps <= job.states * job.worlds + 1u; lamps++)
@@ -111,15 +111,15 @@ static uint64_t brute_check(uint8_t line[LINE_BYTES])
             if (code != NESSFLURRY_GOAL)
                 return failing(code, start, lamps);
         }
-    return ending(NESSFLURRY_GOAL, count_of(reached));
+    return ending(NESSFLURRY_ACCEPTED, count_of(reached));
 }
 
 uint64_t expect_as_brute(void)
 {
-    static uint8_t line[LINE_BYTES];
+    static uint8_t line[NESSFLURRY_LINE_SIZE];
     const uint64_t wanted = brute_check(line);
     expect("the check against all lines", check(), wanted);
-    if (nessflurry_code(wanted) != NESSFLURRY_GOAL)
-        expect("the failing line against all lines", memcmp(lent.line, line, nessflurry_count(wanted)) == 0, true);
+    if (nessflurry_code_of(wanted) != NESSFLURRY_ACCEPTED)
+        expect("the failing line against all lines", memcmp(lent.line, line, nessflurry_lamps_of(wanted)) == 0, true);
     return wanted;
 }

@@ -12,8 +12,8 @@ enum { BRUTE_PAIRS = (MOST_STATES + 1) * MOST_WORLDS };
 
 /*
  * The execution of the line from the start, in the form of plain_run's answer without a limit. Sets reached[q * W + w]
- * for every pair of program state q and world state w that the execution has at its beginning or just after a step
- * that moves on (01, The check), and leaves the rest.
+ * for every pair of program state q and world state w with which the execution comes to a lamp, the first one too, or to the
+ * end of the line (01, The check), and leaves the rest.
  */
 uint64_t brute_run(uint8_t start, const uint8_t *line, size_t lamps, bool reached[BRUTE_PAIRS]);
 

@@ -25,9 +25,14 @@ uint64_t failing(unsigned kind, unsigned start, uint32_t lamps)
     return (uint64_t)start << 16 | ending(kind, lamps);
 }
 
+uint64_t refused(unsigned refusal)
+{
+    return ending(255, 0) | refusal;
+}
+
 uint64_t cabinet(unsigned refusal, unsigned state, uint32_t lamps)
 {
-    return refusal | (uint64_t)state << 16 | (uint64_t)lamps << 32;
+    return (refusal == 0 ? 0 : refused(refusal)) | failing(0, state, lamps);
 }
 
 /* ---- The job at hand ---- */
@@ -85,32 +90,32 @@ uint64_t check(void)
 {
     const struct sizes least = enough(&job);
     const uint64_t answer = check_with(least);
-    const uint32_t lamps = nessflurry_code(answer) == NESSFLURRY_GOAL ? 0 : nessflurry_count(answer);
-    expect("what is behind the line", kept(lent.line + lamps, sizeof lent.line - lamps), true);
-    expect("what is behind the list", kept(lent.list + least.list, sizeof lent.list - least.list * sizeof lent.list[0]), true);
-    expect("what is behind the words", kept(lent.words + least.words, sizeof lent.words - least.words * sizeof lent.words[0]),
+    const uint32_t lamps = nessflurry_code_of(answer) == NESSFLURRY_ACCEPTED ? 0 : nessflurry_lamps_of(answer);
+    expect("what is after the line", kept(lent.line + lamps, sizeof lent.line - lamps), true);
+    expect("what is after the list", kept(lent.list + least.list, sizeof lent.list - least.list * sizeof lent.list[0]), true);
+    expect("what is after the words", kept(lent.words + least.words, sizeof lent.words - least.words * sizeof lent.words[0]),
            true);
     return answer;
 }
 
 void expect_refused_check(const char *what, struct sizes sizes, unsigned refusal)
 {
-    expect(what, check_with(sizes), refusal);
+    expect(what, check_with(sizes), refused(refusal));
     expect("the buffers of a refused check", kept(&lent, sizeof lent), true);
 }
 
 /* Every other argument is as wrong as can be, since the file's number comes before those of the call. */
 void expect_refused_file(const char *what, unsigned refusal)
 {
-    uint16_t head[16];
+    uint16_t head[NESSFLURRY_HEAD_SIZE];
     const uint8_t line[] = {0};
     memset(head, LENT_BYTE, sizeof head);
-    expect(what, plain_read(file.bytes, file.size, head), refusal);
+    expect(what, plain_read(file.bytes, file.size, head), refused(refusal));
     expect("the head of a refused file", kept(head, sizeof head), true);
-    expect(what, plain_walk(file.bytes, file.size, 255, 255, 255), refusal);
-    expect(what, plain_run(file.bytes, file.size, 255, line, 1, 0), refusal);
+    expect(what, plain_walk(file.bytes, file.size, 255, 255, 255), refused(refusal));
+    expect(what, plain_run(file.bytes, file.size, 255, line, 1, 0), refused(refusal));
     expect_refused_check(what, (struct sizes){0, 0, 0}, refusal);
-    expect(what, plain_begin(file.bytes, file.size, 3), refusal);
-    expect(what, plain_action(file.bytes, file.size, 255, 3), refusal);
+    expect(what, plain_begin(file.bytes, file.size, 3), refused(refusal));
+    expect(what, plain_action(file.bytes, file.size, 255, 3), refused(refusal));
     expect(what, plain_report(file.bytes, file.size, 255, 3, 255), cabinet(refusal, 255, 3));
 }

@@ -22,9 +22,13 @@ extern unsigned compared, differing;
 
 void expect(const char *what, uint64_t got, uint64_t wanted);
 
-/* Answers as nessflurry.h lays them out: an ending or an accepted check; a failed check; a cabinet's state. */
+/*
+ * Answers as nessflurry.h lays them out, with the refusal numbers of document 01: an ending or an accepted check; a failed
+ * check; a refused call; a cabinet's state, which comes from a refused report if the refusal is not 0.
+ */
 uint64_t ending(unsigned code, uint32_t count);
 uint64_t failing(unsigned kind, unsigned start, uint32_t lamps);
+uint64_t refused(unsigned refusal);
 uint64_t cabinet(unsigned refusal, unsigned state, uint32_t lamps);
 
 /* ---- The job at hand ---- */
@@ -42,22 +46,22 @@ void take_bench(enum bench_variant variant);
 /* The run from start 0. */
 void expect_run(const char *what, const uint8_t *line, size_t lamps, uint32_t limit, uint64_t wanted);
 
-/* The file is refused by every operation, with one number and without a changed byte. */
+/* The file is refused by every operation, with this number and without a changed byte. */
 void expect_refused_file(const char *what, unsigned refusal);
 
 /* ---- Its check ---- */
 
 /* What is lent to a check, with LENT_BYTE everywhere before it. */
 extern struct lent {
-    uint8_t line[LINE_BYTES];
-    uint32_t list[LIST_NUMBERS];
-    uint64_t words[WORDS];
+    uint8_t line[NESSFLURRY_LINE_SIZE];
+    uint32_t list[NESSFLURRY_LIST_SIZE];
+    uint64_t words[NESSFLURRY_WORDS_SIZE];
 } lent;
 
-/* The check's answer when so much of each is lent. Both of its forms are tried, and agree in it and in every lent byte. */
+/* The check's answer with buffers of these sizes. Both of its forms are tried, and agree in it and in every lent byte. */
 uint64_t check_with(struct sizes sizes);
 
-/* The check's answer with the least that must be lent, and nothing written behind that or behind the failing line. */
+/* The check's answer with the least that must be lent, and nothing written after that or after the failing line. */
 uint64_t check(void);
 
 /* The check is refused, and changes no byte. */

@@ -20,11 +20,11 @@ static void sized_jobs(enum size size)
     expect("a failure on the empty line", check_sized(JOB_AT_ONCE, size), failing(NESSFLURRY_NOT_LEGAL, 0, 0));
     expect("a failure at the first lamp", check_sized(JOB_FIRST_LAMP, size), failing(NESSFLURRY_NOT_LEGAL, 0, 1));
     expect("a circle at the first lamp", check_sized(JOB_CIRCLE, size), failing(NESSFLURRY_CIRCLES, 0, 1));
-    expect("a failure over random tables", nessflurry_code(check_sized(JOB_RANDOM_FAILURE, size)), NESSFLURRY_GOAL_FALSE);
-    expect("a long failing line", nessflurry_code(check_sized(JOB_LONG_FAILURE, size)), NESSFLURRY_GOAL_FALSE);
+    expect("a failure over random tables", nessflurry_code_of(check_sized(JOB_RANDOM_FAILURE, size)), NESSFLURRY_GOAL_FALSE);
+    expect("a long failing line", nessflurry_code_of(check_sized(JOB_LONG_FAILURE, size)), NESSFLURRY_GOAL_FALSE);
     const enum sized_job accepted[] = {JOB_ACCEPTED, JOB_WALK, JOB_WORK, JOB_RANDOM};
     for (size_t i = 0; i < sizeof accepted / sizeof *accepted; i++)
-        expect("an accepted job", nessflurry_code(check_sized(accepted[i], size)), NESSFLURRY_GOAL);
+        expect("an accepted job", nessflurry_code_of(check_sized(accepted[i], size)), NESSFLURRY_ACCEPTED);
 }
 
 /* Jobs of all families, some of which circle. */
@@ -35,7 +35,7 @@ static void random_jobs(void)
     for (unsigned count = 0; count < RANDOM_JOBS; count++) {
         random_job(&job, &random);
         write_job();
-        circles += nessflurry_code(check()) == NESSFLURRY_CIRCLES;
+        circles += nessflurry_code_of(check()) == NESSFLURRY_CIRCLES;
     }
     expect("random jobs that circle", circles >= RANDOM_JOBS / 100, true);
 }

@@ -43,7 +43,7 @@ void long_line_cases(void)
     expect_counting_line();
     memset(job.goal, 1, sizeof job.goal);
     write_job();
-    expect("counting that ends", check(), ending(NESSFLURRY_GOAL, COUNTED + 1));
+    expect("counting that ends", check(), ending(NESSFLURRY_ACCEPTED, COUNTED + 1));
     take_counting(0);
-    expect("counting that begins anew", check(), ending(NESSFLURRY_GOAL, COUNTED));
+    expect("counting that begins anew", check(), ending(NESSFLURRY_ACCEPTED, COUNTED));
 }

@@ -13,13 +13,14 @@ static unsigned checks[5][NUMBERS], runs[6];
 
 static void count_check(uint64_t answer)
 {
-    const uint32_t number = nessflurry_count(answer);
-    checks[nessflurry_code(answer)][number < NUMBERS ? number : NUMBERS - 1]++;
+    const unsigned code = nessflurry_code_of(answer);
+    const uint32_t number = code == NESSFLURRY_ACCEPTED ? nessflurry_pairs_of(answer) : nessflurry_lamps_of(answer);
+    checks[code][number < NUMBERS ? number : NUMBERS - 1]++;
 }
 
 static uint64_t limited(uint64_t answer, uint32_t limit)
 {
-    return nessflurry_count(answer) <= limit ? answer : ending(NESSFLURRY_STOPPED, limit);
+    return nessflurry_steps_of(answer) <= limit ? answer : ending(NESSFLURRY_STOPPED, limit);
 }
 
 /* The run as a chain of walks. */
@@ -29,11 +30,11 @@ static uint64_t run_by_walks(uint8_t start, const uint8_t *line, uint32_t lamps)
     uint32_t steps = 0;
     for (uint32_t passed = 0;; passed++) {
         const uint64_t end = plain_walk(file.bytes, file.size, state, world, passed < lamps ? line[passed] : 0);
-        steps += nessflurry_count(end);
-        if (nessflurry_code(end) != NESSFLURRY_ARRIVED)
-            return ending(nessflurry_code(end), steps);
-        state = nessflurry_state(end);
-        world = nessflurry_world(end);
+        steps += nessflurry_steps_of(end);
+        if (nessflurry_code_of(end) != NESSFLURRY_ARRIVED)
+            return ending(nessflurry_code_of(end), steps);
+        state = nessflurry_state_of(end);
+        world = nessflurry_world_of(end);
     }
 }
 
@@ -42,18 +43,18 @@ static void expect_cabinet_follows(uint8_t start, const uint8_t *line, uint16_t 
 {
     uint8_t world = start;
     uint64_t now = plain_begin(file.bytes, file.size, lamps);
-    for (uint32_t steps = 0; steps < nessflurry_count(run); steps++) {
-        const uint8_t state = nessflurry_state(now);
-        const uint16_t left = (uint16_t)nessflurry_count(now);
-        const uint8_t action = nessflurry_state(plain_action(file.bytes, file.size, state, left));
+    for (uint32_t steps = 0; steps < nessflurry_steps_of(run); steps++) {
+        const uint8_t state = nessflurry_state_of(now);
+        const uint16_t left = nessflurry_lamps_of(now);
+        const uint8_t action = nessflurry_action_of(plain_action(file.bytes, file.size, state, left));
         const struct cell cell = job.cells[action][world][left > 0 ? line[lamps - left] : 0];
         now = plain_report(file.bytes, file.size, state, left, cell.result);
-        expect("a report along a run", nessflurry_refusal(now), 0);
+        expect("a report along a run", nessflurry_code_of(now), NESSFLURRY_DONE);
         world = cell.next;
     }
-    const unsigned code = nessflurry_code(run);
-    const uint64_t last = plain_action(file.bytes, file.size, nessflurry_state(now), (uint16_t)nessflurry_count(now));
-    expect("a cabinet after a run", nessflurry_code(last) == NESSFLURRY_ENDED,
+    const unsigned code = nessflurry_code_of(run);
+    const uint64_t last = plain_action(file.bytes, file.size, nessflurry_state_of(now), nessflurry_lamps_of(now));
+    expect("a cabinet after a run", nessflurry_code_of(last) == NESSFLURRY_ENDED,
            code == NESSFLURRY_GOAL || code == NESSFLURRY_GOAL_FALSE);
 }
 
@@ -70,7 +71,7 @@ static void random_run(struct random *random)
     expect("a run against its execution", plain_run(file.bytes, file.size, start, line, lamps, limit), wanted);
     expect("a run against its walks", run_by_walks(start, line, lamps), run);
     expect_cabinet_follows(start, line, lamps, run);
-    runs[nessflurry_code(wanted)]++;
+    runs[nessflurry_code_of(wanted)]++;
 }
 
 static void print_row(const char *title, const unsigned *numbers, unsigned count)
@@ -87,7 +88,7 @@ static void print_row(const char *title, const unsigned *numbers, unsigned count
 static void print_what_was_met(void)
 {
     printf("%d random jobs\n", RANDOM_JOBS);
-    print_row("accepted, by pairs 0 to 9+", checks[NESSFLURRY_GOAL], NUMBERS);
+    print_row("accepted, by pairs 0 to 9+", checks[NESSFLURRY_ACCEPTED], NUMBERS);
     print_row("failure 1, by lamps 0 to 9+", checks[NESSFLURRY_NOT_LEGAL], NUMBERS);
     print_row("failure 2, by lamps 0 to 9+", checks[NESSFLURRY_NO_BRANCH], NUMBERS);
     print_row("failure 3, by lamps 0 to 9+", checks[NESSFLURRY_CIRCLES], NUMBERS);

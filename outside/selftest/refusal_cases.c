@@ -63,7 +63,7 @@ static void file_sizes(void)
     take_g_of(127);
     expect_refused_file("127 bytes", 3);
     take_g_of(65535);
-    expect("65,535 bytes", check(), ending(NESSFLURRY_GOAL, 1));
+    expect("65,535 bytes", check(), ending(NESSFLURRY_ACCEPTED, 1));
 }
 
 static void runs_and_walks(void)
@@ -72,15 +72,15 @@ static void runs_and_walks(void)
     take_bench(BENCH_G);
     memset(long_line, 1, sizeof long_line);
     const uint8_t kind_0[] = {1, 0}, kind_3[] = {1, 3};
-    expect("start not marked", plain_run(file.bytes, file.size, 1, kind_0, 2, 0), 14);
-    expect("start not below W", plain_run(file.bytes, file.size, 3, kind_0, 1, 0), 14);
-    expect_run("kind 0", kind_0, 2, 0, 15);
-    expect_run("kind 3", kind_3, 2, 0, 15);
-    expect_run("65,536 lamps", long_line, 65536, 9, 15);
+    expect("start not marked", plain_run(file.bytes, file.size, 1, kind_0, 2, 0), refused(14));
+    expect("start not below W", plain_run(file.bytes, file.size, 3, kind_0, 1, 0), refused(14));
+    expect_run("kind 0", kind_0, 2, 0, refused(15));
+    expect_run("kind 3", kind_3, 2, 0, refused(15));
+    expect_run("65,536 lamps", long_line, 65536, 9, refused(15));
     expect_run("65,535 lamps", long_line, 65535, UINT32_MAX, ending(NESSFLURRY_GOAL, 3 * 65535 + 1));
-    expect("walk, world not below W", plain_walk(file.bytes, file.size, 5, 3, 3), 14);
-    expect("walk, no such column", plain_walk(file.bytes, file.size, 5, 1, 3), 15);
-    expect("walk, state above S", plain_walk(file.bytes, file.size, 5, 1, 2), 16);
+    expect("walk, world not below W", plain_walk(file.bytes, file.size, 5, 3, 3), refused(14));
+    expect("walk, no such column", plain_walk(file.bytes, file.size, 5, 1, 3), refused(15));
+    expect("walk, state above S", plain_walk(file.bytes, file.size, 5, 1, 2), refused(16));
     expect("walk, world not marked", plain_walk(file.bytes, file.size, 3, 1, 2), ending(NESSFLURRY_ARRIVED, 1));
     expect("walk, spoilt", plain_walk(file.bytes, file.size, 1, 2, 1), ending(NESSFLURRY_ARRIVED, 2) | (uint64_t)2 << 24);
 }
@@ -90,7 +90,7 @@ static void cabinets(void)
     take_bench(BENCH_G);
     expect("action of state 3", plain_action(file.bytes, file.size, 3, 0), cabinet(0, 2, 0));
     expect("action of state 4", plain_action(file.bytes, file.size, 4, 7), ending(NESSFLURRY_ENDED, 0));
-    expect("action of state 5", plain_action(file.bytes, file.size, 5, 0), 16);
+    expect("action of state 5", plain_action(file.bytes, file.size, 5, 0), refused(16));
     expect("report in state 5", plain_report(file.bytes, file.size, 5, 1, 9), cabinet(16, 5, 1));
     expect("report after the end", plain_report(file.bytes, file.size, 4, 5, 9), cabinet(17, 4, 5));
     expect("report without branch", plain_report(file.bytes, file.size, 3, 0, 1), cabinet(18, 3, 0));
@@ -112,7 +112,7 @@ static void take_circling(uint8_t worlds, uint8_t states)
 static void buffers(void)
 {
     take_circling(64, 0);
-    expect("64 pairs, one word", check_with((struct sizes){1, 64, 1}), ending(NESSFLURRY_GOAL, 1));
+    expect("64 pairs, one word", check_with((struct sizes){1, 64, 1}), ending(NESSFLURRY_ACCEPTED, 1));
     expect_refused_check("64 pairs, no word", (struct sizes){1, 64, 0}, 13);
     expect_refused_check("64 pairs, list of 63", (struct sizes){1, 63, 1}, 13);
     expect_refused_check("64 pairs, no line, no word", (struct sizes){0, 64, 0}, 12);

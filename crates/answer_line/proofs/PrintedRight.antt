@@ -1,4 +1,4 @@
--- The check's answer, with buffers that are large enough for every job, says what is to be printed.
+-- The check's answer says what to print, if the buffers that it is lent are large enough for every job.
 use mathlib.Core.Path.{_≡_, refl, sym, ap, subst, _∙_}
 use mathlib.Core.Option.{Option, none, some}
 use mathlib.Core.List.{List, [], _∷_, _++_}
@@ -6,53 +6,42 @@ use Prim.Native.Nat.{ℕ, _+_, _*_, _≤_}
 use native.Mathlib.Omega.{arith}
 use borrow.Author.Tests.{le-ltb}
 use Rattle.lamp_line.proofs.Products.{product-le}
-use lib.ListN.{length, drop, replicate, length-append, length-replicate}
+use lib.ListN.{length, take, drop, replicate, length-append, length-replicate}
 use lib.Seq.{sets-eq, take-at, drop-at}
 use Rattle.lamp_line.specs.Refusals.{Rule, _when_, refusal, orRefused, answerBy}
+use Rattle.lamp_line.specs.Tables.{lampLine}
 use Rattle.lamp_line.specs.Check.{accepted, failed}
-use Rattle.lamp_line.proofs.Answering.{by-rules-before}
+use Rattle.lamp_line.proofs.Answering.{refusal-is, by-rules-before}
 use Rattle.job_layout.specs.Layout.{head}
 use Rattle.job_layout.specs.JobTables.{tablesOf}
-use Rattle.job_file.specs.Reading.{fileRules, readingOf, Opened}
-use Rattle.job_file.specs.Operations.{bufferShort, listShort, checkRules}
+use Rattle.job_file.specs.Reading.{fileRules}
+use Rattle.plan_check.specs.CheckAnswers.{bufferShort, listShort, checkRules}
+use Rattle.job_file.proofs.Opening.{opened-unrefused}
 use Rattle.job_file.proofs.WellFormed.{sound}
 use Rattle.plan_check.specs.declared.CheckAnswer.{CheckAnswer}
 use Rattle.plan_check.specs.declared.CheckAnswer.the-variants as answer
 use Rattle.plan_check.specs.declared.Failure.{Failure}
-use Rattle.plan_check.specs.CheckAnswers.{lineIn, AnsweredRight, Lent, CheckedBy, Checked}
-use Rattle.answer_line.specs.AnswerLine.{refusedLine, verdictLine, PrintedBy, Printed, Wrote, AnswerIn}
+use Rattle.plan_check.specs.CheckAnswers.{AnsweredRight, Lent, CheckedBy, Checked}
+use Rattle.answer_line.specs.AnswerLine.{refusedLine, verdictLine, PrintedBy, Printed, AnswerIn}
+use Rattle.answer_line.specs.inner.Writing.{Wrote}
 
 -- ---- the buffers are large enough
-
--- A file to which no rule applies is one that the reader answers.
-opened-by : (s : List ℕ) → refusal (fileRules s) ≡ none → Opened s (head s)
-unfolding readingOf answerBy
-opened-by s e = rw e refl
 
 own-rules : (s : List ℕ) → refusal (fileRules s) ≡ none →
     refusal ((12 when bufferShort (tablesOf s) 4097) ∷ (13 when listShort (tablesOf s) 4160 65) ∷ []) ≡ none
 unfolding refusal
 own-rules s e =
-    let wf = sound s (head s) (opened-by s e) .well-formed in
+    let wf = sound s (head s) (opened-unrefused s [] e) .well-formed in
     let few = product-le 64 64 (tablesOf s .states) (tablesOf s .worlds) (wf .states-range) (wf .worlds-range .1) in
     rw (
       le-ltb 4097 (tablesOf s .states * tablesOf s .worlds + 1) (omega (arith, few)),
       le-ltb 4160 ((tablesOf s .states + 1) * tablesOf s .worlds) (omega (arith, few, wf .worlds-range .1)),
     ) refl
 
--- Of a list of rules, with nothing to answer but their numbers.
-as-answer : (rules : List Rule) → answerBy some rules none ≡ refusal rules
-unfolding answerBy
-as-answer rules = by (refusal rules)
-  where
-    by : (o : Option ℕ) → orRefused some o none ≡ o
-    by none = refl
-    by (some number) = refl
-
 large-enough : (s : List ℕ) → refusal (checkRules s 4097 4160 65) ≡ refusal (fileRules s)
 unfolding answerBy
 large-enough s =
-    sym (as-answer (checkRules s 4097 4160 65))
+    refusal-is (checkRules s 4097 4160 65)
     ∙ by-rules-before some (fileRules s) own none
     ∙ by (refusal (fileRules s)) refl
   where
@@ -60,7 +49,7 @@ large-enough s =
     own = (12 when bufferShort (tablesOf s) 4097) ∷ (13 when listShort (tablesOf s) 4160 65) ∷ []
 
     by : (o : Option ℕ) → refusal (fileRules s) ≡ o → orRefused some o (answerBy some own none) ≡ o
-    by none e = as-answer own ∙ own-rules s e
+    by none e = sym (refusal-is own) ∙ own-rules s e
     by (some number) e = refl
 
 -- The lent buffers have these sizes.
@@ -69,10 +58,11 @@ pub record Large (lent : Lent) : Type 0 where
   pub list-size : length (lent .list) ≡ 4160
   pub words-size : length (lent .words) ≡ 65
 
--- Buffers that begin as zeros.
+-- Buffers of zeros, as the program lends them.
 abbrev pub zeros : Lent
 zeros = record { line = replicate 4097 0; list = replicate 4160 0; words = replicate 65 0 }
 
+-- They have these sizes.
 pub zeros-large : Large zeros
 zeros-large =
     record {
@@ -90,6 +80,7 @@ module _ (s : List ℕ) (before after : Lent) (large : Large before) where
       rw (large .line-size, large .list-size, large .words-size) (large-enough s) in
       subst (λ (o : Option ℕ). CheckedBy o (tablesOf s) r before after) by-sizes checked
 
+  -- After Accepted, its line is to be printed.
   pub accepted-printed : (count : ℕ) → Checked s (answer.Accepted count) before after → Printed s (verdictLine (accepted count))
   unfolding AnsweredRight
   accepted-printed count checked = by (refusal (fileRules s)) (by-file _ checked)
@@ -99,18 +90,19 @@ module _ (s : List ℕ) (before after : Lent) (large : Large before) where
       by none (right, same) = (accepted count, right, refl)
       by (some number) (e, same) = absurd (let z : _≡_ {A = ℕ} 0 1 = cc in omega arith)
 
-  -- The failing line, which is in the buffer.
+  -- After Failed, the line to be printed has the lamps that are in the buffer.
   pub failed-printed : (f : Failure) → Checked s (answer.Failed f) before after →
-      Printed s (verdictLine (failed (f .kind) (f .start) (lineIn (after .line) (f .lamps)))) × (f .lamps ≤ length (after .line))
+      Printed s (verdictLine (failed (f .kind) (f .start) (lampLine (take (f .lamps) (after .line))))) × (f .lamps ≤ length (after .line))
   unfolding AnsweredRight
   failed-printed f checked = by (refusal (fileRules s)) (by-file _ checked)
     where
       by : (o : Option ℕ) → CheckedBy o (tablesOf s) (answer.Failed f) before after →
-          PrintedBy o (tablesOf s) (verdictLine (failed (f .kind) (f .start) (lineIn (after .line) (f .lamps))))
+          PrintedBy o (tablesOf s) (verdictLine (failed (f .kind) (f .start) (lampLine (take (f .lamps) (after .line)))))
           × (f .lamps ≤ length (after .line))
-      by none right = ((failed (f .kind) (f .start) (lineIn (after .line) (f .lamps)), right .right, refl), right .within)
+      by none right = ((failed (f .kind) (f .start) (lampLine (take (f .lamps) (after .line))), right .right, refl), right .within)
       by (some number) (e, same) = absurd (let z : _≡_ {A = ℕ} 0 1 = cc in omega arith)
 
+  -- After Refused, the number is the file's refusal, and its line is to be printed.
   pub refused-printed : (number : ℕ) → Checked s (answer.Refused number) before after → Printed s (refusedLine number)
   unfolding AnsweredRight
   refused-printed number checked = by (refusal (fileRules s)) (by-file _ checked)
@@ -122,7 +114,7 @@ module _ (s : List ℕ) (before after : Lent) (large : Large before) where
 
 -- ---- the front of the buffer
 
--- A text that is written from the buffer's front on, and fits.
+-- The text that is to be printed, written from the buffer's front on, and fitting, is the answer.
 pub answer-in : (s text before : List ℕ) (r : ℕ) (after : List ℕ) → Wrote before 0 text r after → length text ≤ length before →
     Printed s text → AnswerIn s r before after
 answer-in s text before r after wrote fits printed =

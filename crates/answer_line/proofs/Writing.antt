@@ -8,15 +8,18 @@ use borrow.Author.Tests.{lt-ltb, le-ltb}
 use lib.Dec.{ltb}
 use lib.ListN.{length, getD, take, set, length-append}
 use lib.Seq.{sets, take-suc, length-take-le}
-use Rattle.answer_line.specs.AnswerLine.{decimalBy, decimal, numbers, lineOf, Wrote}
+use Rattle.answer_line.specs.AnswerLine.{decimalBy, decimal, numbers, textLine}
+use Rattle.answer_line.specs.inner.Writing.{Wrote}
 
--- ---- one piece behind another
+-- ---- one piece after another
 
+-- Setting one piece and then the next sets both as one piece.
 pub sets-sets : (l : List ℕ) (i : ℕ) (xs ys : List ℕ) → sets (sets l i xs) (i + length xs) ys ≡ sets l i (xs ++ ys)
 sets-sets l i [] ys = ap (λ n. sets l n ys) (omega arith)
 sets-sets l i (a ∷ xs) ys =
     ap (λ n. sets (sets (set l i a) (suc i) xs) n ys) (omega arith) ∙ sets-sets (set l i a) (suc i) xs ys
 
+-- Writing one piece and then the next writes both as one text.
 pub wrote-then : {l l′ l″ : List ℕ} {at next next′ : ℕ} {xs ys : List ℕ} →
     Wrote l at xs next l′ → Wrote l′ next ys next′ l″ → Wrote l at (xs ++ ys) next′ l″
 wrote-then {l} {l′} {l″} {at} {next} {next′} {xs} {ys} first second =
@@ -30,7 +33,7 @@ wrote-then {l} {l′} {l″} {at} {next} {next′} {xs} {ys} first second =
           ∙ sets-sets l at xs ys;
     }
 
--- ---- numbers
+-- ---- numbers: their digits, as `put_digits` writes them, and their lengths as text
 
 pub no-digits : (l : List ℕ) (at places n : ℕ) → places ≡ 0 → Wrote l at (decimalBy places n) at l
 unfolding decimalBy
@@ -77,20 +80,21 @@ length-numbers (n ∷ ns) =
     let both = length-append (32 ∷ decimal n) (numbers ns) in
     omega (arith, here, rest, both)
 
--- A number, then others.
+-- Writing a number and then others writes the whole list of numbers.
 pub wrote-number : {l l′ l″ : List ℕ} {at next next′ : ℕ} (n m : ℕ) (ns : List ℕ) → m ≡ n →
     Wrote l at (numbers (m ∷ [])) next l′ → Wrote l′ next (numbers ns) next′ l″ → Wrote l at (numbers (n ∷ ns)) next′ l″
 wrote-number n m ns e first second =
     let joined = wrote-then first second in rw (numbers-append (n ∷ []) ns, sym e) joined
 
-pub length-line : (word ns : List ℕ) → length (lineOf word ns) ≤ length word + 11 * length ns + 1
+-- A number takes at most eleven bytes, and the end of the line takes one.
+pub length-line : (word ns : List ℕ) → length (textLine word ns) ≤ length word + 11 * length ns + 1
 length-line word ns =
     let both = length-append word (numbers ns ++ (10 ∷ [])) in
     let end = length-append (numbers ns) (10 ∷ []) in
     let few = length-numbers ns in
     omega (arith, both, end, few)
 
--- ---- the steps of the loops: the next byte of a word, or the next number of a list, behind those before it
+-- ---- the steps of the loops: the next byte of a word, or the next number of a list, after those before it
 
 take-next : (l : List ℕ) (i : ℕ) → i < length l → take (i + 1) l ≡ take i l ++ (getD l i 0 ∷ [])
 take-next l i i< = let e : i + 1 ≡ suc i = omega arith in ap (λ n. take n l) e ∙ take-suc l i 0 i<
@@ -99,8 +103,8 @@ pub next-byte : (l : List ℕ) (at i : ℕ) (word : List ℕ) → i < length wor
     set (sets l at (take i word)) (at + i) (getD word i 0) ≡ sets l at (take (i + 1) word)
 next-byte l at i word i< =
     let so-far = length-take-le i word (omega (arith, i<)) in
-    let behind : at + i ≡ at + length (take i word) = omega (arith, so-far) in
-    ap (λ n. set (sets l at (take i word)) n (getD word i 0)) behind
+    let next-place : at + i ≡ at + length (take i word) = omega (arith, so-far) in
+    ap (λ n. set (sets l at (take i word)) n (getD word i 0)) next-place
     ∙ sets-sets l at (take i word) (getD word i 0 ∷ [])
     ∙ ap (sets l at) (sym (take-next word i i<))
 

@@ -1,11 +1,13 @@
-// Text in a buffer. Each function writes at a place and answers the place behind what it wrote. They are for this crate alone: each
-// asks for room in the buffer.
+// Text in a buffer. Each function writes at an index and answers the index after what it wrote. They are for this crate alone: each asks
+// for room in the buffer.
 ghost use mathlib.Core.Path.{_≡_};
 ghost use mathlib.Core.List.{[], _∷_};
 ghost use Prim.Native.Nat.{_+_, _*_, _<_, _≤_};
 ghost use lib.ListN.{length};
-ghost use Rattle.answer_line.specs.AnswerLine.{decimalBy, numbers, Wrote};
+ghost use Rattle.answer_line.specs.AnswerLine.{decimalBy, numbers};
+ghost use Rattle.answer_line.specs.inner.Writing.{Wrote};
 
+// One byte.
 pub fn put_byte(out: &mut [u8], at: usize, byte: u8) -> usize
     requires { ⌜ at < length (now out) ⌝ }
     ensures { λ r. ⌜ Wrote (now (out .entry)) at (byte ∷ []) r (now (out .exit)) ⌝ }
@@ -14,6 +16,7 @@ pub fn put_byte(out: &mut [u8], at: usize, byte: u8) -> usize
     at + 1
 }
 
+// The bytes of a word.
 pub fn put_word(out: &mut [u8], at: usize, word: &[u8]) -> usize
     requires { ⌜ at + length (now word) ≤ length (now out) ⌝ }
     ensures { λ r. ⌜ Wrote (now (out .entry)) at (now (word .entry)) r (now (out .exit)) ⌝ }
@@ -27,6 +30,7 @@ pub fn put_word(out: &mut [u8], at: usize, word: &[u8]) -> usize
     at + i
 }
 
+// The decimal digits of a number that has at most `places` of them.
 fn put_digits(out: &mut [u8], at: usize, places: u8, n: u32) -> usize
     requires { ⌜ at + places ≤ length (now out) ⌝ }
     ensures { λ r. ⌜ Wrote (now (out .entry)) at (decimalBy places n) r (now (out .exit)) ⌝ }
@@ -51,13 +55,14 @@ pub fn put_number(out: &mut [u8], at: usize, n: u32) -> usize
     put_digits(out, next, 10, n)
 }
 
+// A byte as a number that can be printed.
 pub fn wide(byte: u8) -> u32
     ensures { λ r. ⌜ r ≡ byte ⌝ }
 {
     byte as u32
 }
 
-// A blank and a number for each byte.
+// A blank and a number, for each byte.
 pub fn put_bytes(out: &mut [u8], at: usize, bytes: &[u8]) -> usize
     requires { ⌜ at + 11 * length (now bytes) ≤ length (now out) ⌝ }
     ensures { λ r. ⌜ Wrote (now (out .entry)) at (numbers (now (bytes .entry))) r (now (out .exit)) ⌝ }

@@ -1,3 +1,5 @@
-pub mod CabinetRules
-pub mod CabinetSteps
+pub mod Answering
+pub mod Branches
+pub mod Following
 pub mod SameAnswers
+pub mod Serving

@@ -1,9 +1,9 @@
--- The cabinet reads marks and plan only: files that are equal in these have tables that are equal in these, and so the cabinet's
--- machine replies the same.
+-- The cabinet reads marks and plan only. If two files are equal in these, so are their tables, and its operations give the same answers
+-- on both.
 use mathlib.Core.Path.{_≡_, refl, sym, ap, _∙_}
 use mathlib.Core.Bool.{Bool, true, false, cond, _&&_}
-use mathlib.Core.Option.{none}
-use mathlib.Core.List.{List}
+use mathlib.Core.Option.{Option, none, some}
+use mathlib.Core.List.{List, [], _∷_}
 use Prim.Native.Nat.{ℕ, _+_, _*_, _<_}
 use native.Mathlib.Omega.{arith}
 use borrow.Author.Tests.{ltb-true}
@@ -11,18 +11,44 @@ use lib.Arith.{digits-lt}
 use lib.Dec.{ltb}
 use Rattle.plans.specs.Plan.{Action, Result}
 use Rattle.lamp_line.specs.declared.ProgramState.{ProgramState}
-use Rattle.lamp_line.specs.Cabinet.{ask}
-use Rattle.lamp_line.specs.Cabinet as machine
-use Rattle.lamp_line.specs.Promises.{SameForCabinet}
-use Rattle.cabinet_laws.proofs.ReadsPlan.{cabinet-reads-plan}
-use Rattle.job_layout.specs.declared.Job.{Job}
+use Rattle.lamp_line.specs.declared.Cabinet.{Cabinet}
+use Rattle.lamp_line.specs.Tables.{Tables}
+use Rattle.lamp_line.specs.Refusals.{_when_, answerBy}
 use Rattle.job_layout.specs.Layout.{byte, head, markPlace, actionPlace, targetPlace}
 use Rattle.job_layout.specs.JobTables.{branch, tablesOf}
-use Rattle.job_file.specs.Reading.{Opened}
-use Rattle.cabinet.specs.declared.BeginAnswer.the-variants as begun
-use Rattle.cabinet.specs.CabinetAnswers.{actionOf, reportOf}
-use Rattle.cabinet.specs.ReadsPlan.{EqualForCabinet, EqualAnswers}
-use Rattle.cabinet.proofs.CabinetRules.{begin-opened, action-opened, report-opened}
+use Rattle.cabinet.specs.declared.ActionAnswer.the-variants as action
+use Rattle.cabinet.specs.CabinetAnswers.{keeping, isAbove, hasEnded, followed}
+use Rattle.cabinet.specs.ReadsPlan.{EqualForCabinet, ReadsPlanOnly}
+use Rattle.cabinet.proofs.Answering.{begin-opened, action-rules, report-rules}
+
+-- ---- equal tables
+
+-- The tables are equal in what the cabinet reads.
+record EqualTables (t t′ : Tables) : Type 0 where
+  pub states : t .states ≡ t′ .states
+  pub first : t .first ≡ t′ .first
+  pub marks : (a : Action) → t .mark a ≡ t′ .mark a
+  pub acts : (q : ProgramState) → t .action q ≡ t′ .action q
+  pub targets : (q : ProgramState) (r : Result) → t .target q r ≡ t′ .target q r
+
+same-followed :
+    {t t′ : Tables} → EqualTables t t′ → (m : Cabinet) (target : Option ProgramState) → followed t m target ≡ followed t′ m target
+same-followed same m none = refl
+same-followed {t} {t′} same m (some q) = rw (same .acts (m .state), same .marks (t′ .action (m .state)))
+
+module _ {t t′ : Tables} (same : EqualTables t t′) (m : Cabinet) where
+  same-action-rules :
+      answerBy action.Refused ((16 when isAbove t m) ∷ []) (cond (hasEnded t m) action.Ended (action.Action (t .action (m .state))))
+      ≡ answerBy action.Refused ((16 when isAbove t′ m) ∷ []) (cond (hasEnded t′ m) action.Ended (action.Action (t′ .action (m .state))))
+  same-action-rules = rw (same .states, same .acts (m .state))
+
+  same-report-rules :
+      (r : Result) →
+      answerBy (keeping m) ((16 when isAbove t m) ∷ (17 when hasEnded t m) ∷ []) (followed t m (t .target (m .state) r))
+      ≡ answerBy (keeping m) ((16 when isAbove t′ m) ∷ (17 when hasEnded t′ m) ∷ []) (followed t′ m (t′ .target (m .state) r))
+  same-report-rules r = rw (same .states, same .targets (m .state) r, same-followed same m (t′ .target (m .state) r))
+
+-- ---- equal files
 
 module _ (s s′ : List ℕ) (equal : EqualForCabinet s s′) where
   same-mark : (a : Action) → tablesOf s .mark a ≡ tablesOf s′ .mark a
@@ -33,7 +59,7 @@ module _ (s s′ : List ℕ) (equal : EqualForCabinet s s′) where
       by true e = equal .marks a (ltb-true _ _ e) ∙ rw (sym (equal .actions), e)
       by false e = rw (sym (equal .actions), e)
 
-  -- The byte of the plan at the place r of the row of state q; a row has an action and R targets.
+  -- The byte at offset r in the plan's row of state q. A row holds an action and R targets.
   same-row : (q : ProgramState) (r : ℕ) → q .0 < head s .states → r < 1 + head s .results → (i i′ : ℕ) →
       i ≡ actionPlace (head s) q + r → i′ ≡ actionPlace (head s′) q + r → byte s i ≡ byte s′ i′
   same-row q r q< r< i i′ e e′ =
@@ -65,11 +91,9 @@ module _ (s s′ : List ℕ) (equal : EqualForCabinet s s′) where
       by true false e e′ = rw (sym (equal .states), sym (equal .results), e, e′)
       by false b′ e e′ = rw (sym (equal .states), e)
 
-  same-tables : SameForCabinet (tablesOf s) (tablesOf s′)
+  same-tables : EqualTables (tablesOf s) (tablesOf s′)
   same-tables =
       record {
-        actions = equal .actions;
-        results = equal .results;
         states = equal .states;
         first = equal .first;
         marks = same-mark;
@@ -77,17 +101,13 @@ module _ (s s′ : List ℕ) (equal : EqualForCabinet s s′) where
         targets = same-target;
       }
 
-  -- Two files that are not refused.
-  pub same-answers : (j j′ : Job) → Opened s j → Opened s′ j′ → EqualAnswers s s′
-  same-answers j j′ opened opened′ =
-      let same = cabinet-reads-plan (tablesOf s) (tablesOf s′) same-tables in
-      record {
-        begins = λ count.
-            begin-opened s j opened count ∙ ap begun.Begun (same .0 count) ∙ sym (begin-opened s′ j′ opened′ count);
-        actions = λ m.
-            action-opened s j opened m ∙ ap actionOf (same .1 m ask) ∙ sym (action-opened s′ j′ opened′ m);
-        reports = λ m r.
-            report-opened s j opened m r
-            ∙ ap (reportOf m) (same .1 m (machine.report r))
-            ∙ sym (report-opened s′ j′ opened′ m r);
-      }
+-- The cabinet's operations cannot tell such files apart.
+pub same-answers : ReadsPlanOnly
+same-answers s s′ j j′ opened opened′ equal =
+    let same = same-tables s s′ equal in
+    record {
+      begins = λ count.
+          begin-opened s opened count ∙ (rw (same .first) (sym (begin-opened s′ opened′ count)));
+      actions = λ m. action-rules s opened m ∙ same-action-rules same m ∙ sym (action-rules s′ opened′ m);
+      reports = λ m r. report-rules s opened m r ∙ same-report-rules same m r ∙ sym (report-rules s′ opened′ m r);
+    }

@@ -1,47 +1,70 @@
--- What the cabinet's operations answer (document 01, "The cabinet" and "Who can cause which number"): the first of refusals 1
--- to 11 that applies to the file, or else what the cabinet's machine replies.
-use mathlib.Core.List.{List}
-use Prim.Native.Nat.{ℕ}
+-- The answers of the cabinet's operations (01, "The cabinet" and "Who can cause which number"). The machine holds a program state and
+-- the number of lamps left, and nothing of world states or cells.
+use mathlib.Core.Bool.{Bool, cond, _&&_}
+use mathlib.Core.Option.{Option, none, some}
+use mathlib.Core.List.{List, [], _∷_, _++_}
+use Prim.Native.Nat.{ℕ, _-_}
+use lib.Dec.{eqb, ltb}
 use Rattle.plans.specs.Plan.{Result}
+use Rattle.lamp_line.specs.declared.ProgramState.{ProgramState}
 use Rattle.lamp_line.specs.declared.Cabinet.{Cabinet}
-use Rattle.lamp_line.specs.Refusals.{answerBy}
-use Rattle.lamp_line.specs.Cabinet as machine
+use Rattle.lamp_line.specs.Tables.{Tables, movesOn}
+use Rattle.lamp_line.specs.Refusals.{_when_, answerBy}
 use Rattle.job_layout.specs.JobTables.{tablesOf}
 use Rattle.job_file.specs.Reading.{fileRules}
-use Rattle.job_file.specs.Operations.{beginRules}
 use Rattle.cabinet.specs.declared.BeginAnswer.{BeginAnswer}
-use Rattle.cabinet.specs.declared.BeginAnswer.the-variants as begun
+use Rattle.cabinet.specs.declared.BeginAnswer.the-variants as begin
 use Rattle.cabinet.specs.declared.ActionAnswer.{ActionAnswer}
 use Rattle.cabinet.specs.declared.ActionAnswer.the-variants as action
 use Rattle.cabinet.specs.declared.ReportAnswer.{ReportAnswer}
 use Rattle.cabinet.specs.declared.ReportAnswer.the-variants as report
 
--- The machine's reply to a call for the action. It never takes a state then: that case has the number 0, which no refusal has.
-abbrev pub actionOf : machine.Reply → ActionAnswer
-actionOf (machine.act a) = action.Action a
-actionOf machine.ended = action.Ended
-actionOf (machine.taken m) = action.Refused 0
-actionOf (machine.refused number m) = action.Refused number
-
--- The machine's reply to a report in state m. It never names an action then, nor Ended: those cases have the number 0.
-abbrev pub reportOf : Cabinet → machine.Reply → ReportAnswer
-reportOf m (machine.act a) = report.Refused 0 m
-reportOf m machine.ended = report.Refused 0 m
-reportOf m (machine.taken m′) = report.Taken m′
-reportOf m (machine.refused number m′) = report.Refused number m′
-
--- A refusal with the old state.
+-- A report that is refused with this number: the machine stays as it was.
 abbrev pub keeping : Cabinet → ℕ → ReportAnswer
 keeping m number = report.Refused number m
 
--- The beginning: "the first state and the panel's count".
+module _ (t : Tables) where
+  -- The machine that Begin returns: in the first program state, with the count from the panel.
+  abbrev pub firstMachine : ℕ → Cabinet
+  firstMachine count = record { state = t .first; lamps = count }
+
+  -- 16: the machine's program state is above S.
+  abbrev pub isAbove : Cabinet → Bool
+  isAbove m = ltb (t .states) (m .state .0)
+
+  -- The machine is in state S.
+  abbrev pub hasEnded : Cabinet → Bool
+  hasEnded m = eqb (m .state .0) (t .states)
+
+  -- The action of the machine's state moves on.
+  abbrev pub isMoving : Cabinet → Bool
+  isMoving m = movesOn t (t .action (m .state))
+
+  -- The machine after its action's result has led to the program state q. If the action moves on, the number of lamps falls by one.
+  abbrev pub movedTo : Cabinet → ProgramState → Cabinet
+  movedTo m q = record { state = q; lamps = cond (isMoving m) (m .lamps - 1) (m .lamps) }
+
+  -- The answer by the branch for the reported result. 18: there is no branch; results that are not below R never have one. 19: the
+  -- action moves on, but no lamp is left.
+  abbrev pub followed : Cabinet → Option ProgramState → ReportAnswer
+  followed m none = keeping m 18
+  followed m (some q) = answerBy (keeping m) ((19 when isMoving m && eqb (m .lamps) 0) ∷ []) (report.Taken (movedTo m q))
+
+-- ---- the operations
+
+-- Begin with this count of lamps. Only the file can be refused.
 unfoldable pub beginAnswer : List ℕ → ℕ → BeginAnswer
-beginAnswer s count = answerBy begun.Refused (beginRules s) (begun.Begun (machine.begin (tablesOf s) count))
+beginAnswer s count = answerBy begin.Refused (fileRules s) (begin.Begun (firstMachine (tablesOf s) count))
 
--- A call for the action in state m.
+-- The action to do in state m, or Ended. 16: m is no state of the plan.
 unfoldable pub actionAnswer : List ℕ → Cabinet → ActionAnswer
-actionAnswer s m = answerBy action.Refused (fileRules s) (actionOf (machine.reply (tablesOf s) m machine.ask))
+actionAnswer s m =
+    answerBy action.Refused (fileRules s ++ (16 when isAbove (tablesOf s) m) ∷ [])
+    (cond (hasEnded (tablesOf s) m) action.Ended (action.Action (tablesOf s .action (m .state))))
 
--- A report of the result r in state m.
+-- The answer to the result r, reported in state m. 17: the plan has ended already.
 unfoldable pub reportAnswer : List ℕ → Cabinet → Result → ReportAnswer
-reportAnswer s m r = answerBy (keeping m) (fileRules s) (reportOf m (machine.reply (tablesOf s) m (machine.report r)))
+reportAnswer s m r =
+    answerBy (keeping m)
+    (fileRules s ++ (16 when isAbove (tablesOf s) m) ∷ (17 when hasEnded (tablesOf s) m) ∷ [])
+    (followed (tablesOf s) m (tablesOf s .target (m .state) r))

@@ -1,10 +1,10 @@
-// The cabinet (document 01, "The cabinet"). `begin`, `next_action` and `report` are the operations; they ask nothing of their
-// caller and read marks and plan only.
+// The cabinet (01, "The cabinet"). `begin`, `next_action` and `report` are the operations. They ask nothing of their caller, and read only
+// the marks and the plan of a file that is not refused.
 ghost use mathlib.Core.Path.{_≡_};
 ghost use Prim.Native.Nat.{_<_};
 ghost use Rattle.job_layout.specs.JobTables.{tablesOf};
 ghost use Rattle.job_file.specs.Reading.{Opened};
-ghost use Rattle.job_tables.specs.Entries.{targetOf};
+ghost use Rattle.job_tables.specs.inner.Entries.{targetOf};
 ghost use Rattle.cabinet.specs.CabinetAnswers.{beginAnswer, actionAnswer, reportAnswer};
 use job_file::Reading;
 use job_file::read_job;
@@ -17,26 +17,26 @@ use job_tables::plan_target;
 use lamp_line::Cabinet;
 use lamp_line::ProgramState;
 
-// What the beginning answers: the cabinet's machine in its first state.
+// Begin's answer: the cabinet's machine in its first state, or the number of a refusal.
 pub enum BeginAnswer {
     Begun(Cabinet),
     Refused(u8),
 }
 
-// What a call for the action answers.
+// The answer to a call for the action: the action, Ended in state S, or the number of a refusal.
 pub enum ActionAnswer {
     Action(u8),
     Ended,
     Refused(u8),
 }
 
-// What a report answers: the new state, or the number of a refusal and the old state.
+// A report's answer: the new state, or the number of a refusal with the old state.
 pub enum ReportAnswer {
     Taken(Cabinet),
     Refused(u8, Cabinet),
 }
 
-// The first state with the panel's count of lamps, for any file and count.
+// Begins a cabinet with the panel's count of lamps, for any file and count.
 pub fn begin(file: &[u8], count: u16) -> BeginAnswer
     ensures { λ r. ⌜ r ≡ beginAnswer (now (file .entry)) count ⌝ }
 {
@@ -51,7 +51,7 @@ pub fn begin(file: &[u8], count: u16) -> BeginAnswer
     })
 }
 
-// The action to be done in a state, or Ended in state S, for any file and state.
+// Names the action to do in a state, for any file and state.
 pub fn next_action(file: &[u8], state: Cabinet) -> ActionAnswer
     ensures { λ r. ⌜ r ≡ actionAnswer (now (file .entry)) state ⌝ }
 {
@@ -79,7 +79,7 @@ fn branch(file: &[u8], job: Job, state: ProgramState, result: u8) -> Target
     plan_target(file, job, state, result)
 }
 
-// The state after a sensed result is reported, for any file, state and result.
+// Takes the report of a sensed result, for any file, state and result.
 pub fn report(file: &[u8], state: Cabinet, result: u8) -> ReportAnswer
     ensures { λ r. ⌜ r ≡ reportAnswer (now (file .entry)) state result ⌝ }
 {

@@ -1,24 +1,18 @@
-// The cabinet on bench line G: the bench case of document 01, a whole list of calls along the line [1], and the order of the refusals.
-// Prints what the operations answer.
-use bench_jobs::bench;
+// The cabinet on bench line G: the bench case of 01, a whole list of calls along the line [1], and the order of the refusals. Prints the
+// operations' answers.
+use bench_line::bench;
+use bench_line::bench_with;
 use cabinet::ActionAnswer;
 use cabinet::BeginAnswer;
 use cabinet::ReportAnswer;
+use case_printing::print_counted;
+use case_printing::print_number;
+use case_printing::print_refused;
+use case_printing::print_text;
 use lamp_line::Cabinet;
 use lamp_line::ProgramState;
-use libc::STDOUT_FILENO;
 
-fn print_number(n: u64) {
-    io::write_all(STDOUT_FILENO, b" ");
-    io::print_decimal(STDOUT_FILENO, n);
-}
-
-// The program state and the lamps left.
-fn print_state(state: Cabinet) {
-    print_number(state.state.0 as u64);
-    print_number(state.lamps as u64);
-}
-
+// The cabinet's state with this program state and this number of lamps left.
 fn state_of(state: u8, lamps: u16) -> Cabinet {
     Cabinet {
         state: ProgramState(state),
@@ -26,70 +20,85 @@ fn state_of(state: u8, lamps: u16) -> Cabinet {
     }
 }
 
-// The state that a beginning answers; the final one with no lamps where it is refused.
-fn begin(file: &[u8], count: u16) -> Cabinet {
-    let begun = cabinet::begin(file, count);
-    io::write_all(STDOUT_FILENO, b"begin");
-    print_number(count as u64);
-    io::write_all(STDOUT_FILENO, b":");
+// The program state and the lamps left.
+fn print_state(cabinet: Cabinet) {
+    print_number(cabinet.state.0 as u64);
+    print_number(cabinet.lamps as u64);
+}
+
+// A call, the state that it is handed, and a colon.
+fn print_call(call: &[u8], cabinet: Cabinet) {
+    print_text(call);
+    print_text(b" at");
+    print_state(cabinet);
+    print_text(b":");
+}
+
+// Prints Begin's answer, and answers the state to go on with: state 0 with no lamps if the file is refused.
+fn print_begun(begun: BeginAnswer) -> Cabinet {
     match begun {
-        BeginAnswer::Begun(state) => {
-            print_state(state);
-            io::write_all(STDOUT_FILENO, b"\n");
-            state
+        BeginAnswer::Begun(cabinet) => {
+            print_state(cabinet);
+            cabinet
         }
         BeginAnswer::Refused(number) => {
-            io::write_all(STDOUT_FILENO, b" refused");
-            print_number(number as u64);
-            io::write_all(STDOUT_FILENO, b"\n");
+            print_refused(number);
             state_of(0, 0)
         }
     }
 }
 
-fn ask(file: &[u8], state: Cabinet) {
-    let asked = cabinet::next_action(file, state);
-    io::write_all(STDOUT_FILENO, b"action at");
-    print_state(state);
-    io::write_all(STDOUT_FILENO, b":");
-    match asked {
-        ActionAnswer::Action(action) => print_number(action as u64),
-        ActionAnswer::Ended => {
-            io::write_all(STDOUT_FILENO, b" ended");
-        }
-        ActionAnswer::Refused(number) => {
-            io::write_all(STDOUT_FILENO, b" refused");
-            print_number(number as u64);
-        }
-    }
-    io::write_all(STDOUT_FILENO, b"\n");
+// Begins with a count of lamps.
+fn begin(file: &[u8], count: u16) -> Cabinet {
+    print_counted(b"begin", count as u64);
+    print_text(b":");
+    let cabinet = print_begun(cabinet::begin(file, count));
+    print_text(b"\n");
+    cabinet
 }
 
-// The state that a report returns.
-fn report(file: &[u8], state: Cabinet, result: u8) -> Cabinet {
-    let reported = cabinet::report(file, state, result);
-    io::write_all(STDOUT_FILENO, b"report");
-    print_number(result as u64);
-    io::write_all(STDOUT_FILENO, b" at");
-    print_state(state);
-    io::write_all(STDOUT_FILENO, b":");
+// The answer to a call for the action.
+fn print_asked(asked: ActionAnswer) {
+    match asked {
+        ActionAnswer::Action(action) => print_number(action as u64),
+        ActionAnswer::Ended => print_text(b" ended"),
+        ActionAnswer::Refused(number) => print_refused(number),
+    }
+}
+
+// Asks for the action.
+fn ask(file: &[u8], cabinet: Cabinet) {
+    print_call(b"action", cabinet);
+    print_asked(cabinet::next_action(file, cabinet));
+    print_text(b"\n");
+}
+
+// Prints a report's answer, and answers the state to go on with.
+fn print_reported(reported: ReportAnswer) -> Cabinet {
     match reported {
         ReportAnswer::Taken(next) => {
             print_state(next);
-            io::write_all(STDOUT_FILENO, b"\n");
             next
         }
         ReportAnswer::Refused(number, kept) => {
-            io::write_all(STDOUT_FILENO, b" refused");
-            print_number(number as u64);
-            io::write_all(STDOUT_FILENO, b", state");
+            print_refused(number);
+            print_text(b", state");
             print_state(kept);
-            io::write_all(STDOUT_FILENO, b"\n");
             kept
         }
     }
 }
 
+// Reports a result.
+fn report(file: &[u8], cabinet: Cabinet, result: u8) -> Cabinet {
+    print_counted(b"report", result as u64);
+    print_call(b"", cabinet);
+    let next = print_reported(cabinet::report(file, cabinet, result));
+    print_text(b"\n");
+    next
+}
+
+// The bench case of the cabinet.
 fn bench_case(g: &[u8]) {
     let m = begin(g, 2);
     let m = report(g, m, 1);
@@ -99,7 +108,7 @@ fn bench_case(g: &[u8]) {
     report(g, m, 2);
 }
 
-// The results along the line [1], with calls for the action and refused reports before, between and after them.
+// The results along the line [1], mixed with calls for the action and refused reports.
 fn along_a_line(g: &[u8]) {
     let m = begin(g, 1);
     let m = report(g, m, 2);
@@ -113,6 +122,7 @@ fn along_a_line(g: &[u8]) {
     report(g, m, 0);
 }
 
+// Reports that more than one number applies to, and others that are close to them.
 fn order_of_refusals(g: &[u8]) {
     report(g, state_of(3, 0), 0);
     report(g, state_of(3, 0), 1);
@@ -123,12 +133,11 @@ fn order_of_refusals(g: &[u8]) {
     ask(g, state_of(5, 0));
 }
 
-fn refused_file() {
-    let mut file = bench();
-    file[32] = 3;
-    begin(&file, 2);
-    ask(&file, state_of(0, 1));
-    report(&file, state_of(3, 7), 0);
+// Calls with a file that is refused.
+fn refused_file(file: &[u8]) {
+    begin(file, 2);
+    ask(file, state_of(0, 1));
+    report(file, state_of(3, 7), 0);
 }
 
 fn main() {
@@ -136,5 +145,5 @@ fn main() {
     bench_case(&g);
     along_a_line(&g);
     order_of_refusals(&g);
-    refused_file();
+    refused_file(&bench_with(32, 3));
 }

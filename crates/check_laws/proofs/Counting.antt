@@ -1,5 +1,5 @@
--- How many values have a property: the number is one, since a list without repetitions is no longer than one that holds all its
--- elements; and the elements of a list by their places.
+-- The number of values with a property is unique, since a list without repetitions is not longer than any list that holds its
+-- elements. Also: the elements of a list by their places.
 use mathlib.Core.Path.{_≡_, refl, sym, ap, subst, _∙_}
 use mathlib.Core.Logic.{_≢_, inl, inr, ⊎-elim}
 use mathlib.Core.List.{List, [], _∷_, map}
@@ -8,9 +8,9 @@ use native.Mathlib.Omega.{arith}
 use lib.ListN.{length, getD}
 use Rattle.lamp_line.specs.Lists.{_∈_, Distinct, NumberOf}
 
--- ---- one number
+-- ---- the number is unique
 
--- A list that has x, without it: it is one shorter, and holds all else.
+-- The list l without its element x: it is one shorter, and holds everything else.
 record Without {A : Type 0} (x : A) (l : List A) : Type 0 where
   pub others : List A
   pub shorter : length l ≡ suc (length others)
@@ -36,7 +36,7 @@ no-longer (x ∷ l) m (new, once) within =
     let others : (y : _) → y ∈ l → y ∈ w .others = λ y n. w .rest y (within y (inr n)) (λ e. new (subst (λ z. z ∈ l) e n)) in
     omega (arith, no-longer l (w .others) once others, w .shorter)
 
--- There is one number of values with a property.
+-- The number of values with a property is unique.
 pub number-once : {A : Type 0} (P : A → Type 0) (m n : ℕ) → NumberOf P m → NumberOf P n → m ≡ n
 number-once P m n a b =
     let h = no-longer (a .listed) (b .listed) (a .once) (λ x i. b .exactly x .0 (a .exactly x .1 i)) in
@@ -53,14 +53,14 @@ module _ {A B : Type 0} (f : A → B) (d : A) where
   at-place-in (x ∷ l) zero h = inl refl
   at-place-in (x ∷ l) (suc i) h = inr (at-place-in l i (omega arith))
 
-  -- And each element stands at a place.
+  -- Each element stands at some place.
   pub in-at-place : (l : List A) (y : B) → y ∈ map f l → (i : ℕ) × (i < length l) × (y ≡ f (getD l i d))
   unfolding _∈_
   in-at-place [] y m = absurd m
   in-at-place (x ∷ l) y (inl e) = (0, omega arith, e)
   in-at-place (x ∷ l) y (inr m) = let (i, h, e) = in-at-place l y m in (suc i, omega arith, e)
 
-  -- Where no two places have one element, the list has no repetitions.
+  -- If no two places have the same element, the list has no repetitions.
   pub distinct-by-places :
       (l : List A) → ((i j : ℕ) → i < j → j < length l → f (getD l i d) ≢ f (getD l j d)) → Distinct (map f l)
   unfolding Distinct

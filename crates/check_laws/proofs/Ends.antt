@@ -1,4 +1,4 @@
--- A pair at the ends of lines: what the test of all kinds of ends says, and what it comes to where there is one kind.
+-- A pair at the ends of lines: what the test of all kinds of ends says, and its result where there is only one kind.
 use mathlib.Core.Path.{_≡_, refl}
 use mathlib.Core.Logic.{_≢_}
 use Prim.Native.Nat.{ℕ, zero, suc, _+_, _<_}
@@ -6,7 +6,7 @@ use native.Mathlib.Decide.{decLt}
 use native.Mathlib.Omega.{arith}
 use Rattle.lamp_line.specs.declared.FailureKind.{FailureKind}
 use Rattle.lamp_line.specs.Tables.{Tables, endKinds}
-use Rattle.check_laws.specs.Fates.{Fate, succeeds, fails, arrives, AtEnds, good, bad, fate, endsFrom, atEnds}
+use Rattle.check_laws.specs.inner.Fates.{NodeFate, succeeds, fails, arrives, AtEnds, good, bad, fate, endsFrom, atEnds}
 use Rattle.check_laws.proofs.TableGraph.{FailsAt}
 
 module _ (t : Tables) where
@@ -14,7 +14,7 @@ module _ (t : Tables) where
   abbrev pub GoodAtEnds : ℕ → Type 0
   GoodAtEnds x = (e f : ℕ) → e < endKinds t → ¬ (FailsAt t x e f)
 
-  -- The pair fails so at the end e, and at no lower one.
+  -- The pair fails at the end e with this failure kind, and fails at no lower end.
   pub record BadAtEnd (x e : ℕ) (kind : FailureKind) : Type 0 where
     pub is-end : e < endKinds t
     pub fate-is : fate t x e ≡ fails kind
@@ -25,7 +25,7 @@ module _ (t : Tables) where
   EndsSay x good = GoodAtEnds x
   EndsSay x (bad e kind) = BadAtEnd x e kind
 
-  -- From the end e on, where the pair fails at none of the lower ones.
+  -- The test from the end e on, if the pair fails at none of the lower ends.
   ends-from :
       (n e x : ℕ) → e + n ≡ endKinds t → ((e′ f : ℕ) → e′ < e → ¬ (FailsAt t x e′ f)) → EndsSay x (endsFrom t n e x)
   unfolding endsFrom
@@ -41,7 +41,7 @@ module _ (t : Tables) where
 
       go :
           (((e′ f : ℕ) → e′ < e + 1 → ¬ (FailsAt t x e′ f)) → EndsSay x (endsFrom t n (e + 1) x)) →
-          (v : Fate) → fate t x e ≡ v →
+          (v : NodeFate) → fate t x e ≡ v →
           EndsSay x (elim v as (λ _. AtEnds) [
             | succeeds ↦ endsFrom t n (e + 1) x
             | fails kind ↦ bad e kind
@@ -51,25 +51,25 @@ module _ (t : Tables) where
       go after (fails kind) f = record { is-end = omega arith; fate-is = f; lowest = none }
       go after (arrives y) f = after (also (λ kind g. let z : _≡_ {A = ℕ} 0 1 = cc in omega arith))
 
-  -- The test of all kinds of ends says so.
+  -- What the test of all kinds of ends says is true.
   pub ends-say : (x : ℕ) → EndsSay x (atEnds t x)
   ends-say x = ends-from (endKinds t) 0 x (omega arith) (λ e f l. absurd (omega arith))
 
   -- ---- one kind of end
 
-  -- A pair that does not fail at column 0 fails at no end.
+  -- If a pair does not fail at column 0, it fails at no end.
   pub ends-good : (x : ℕ) → ((kind : FailureKind) → fate t x 0 ≢ fails kind) → atEnds t x ≡ good
   unfolding endKinds endsFrom
   ends-good x none = go (fate t x 0) none
     where
       go :
-          (v : Fate) → ((kind : FailureKind) → v ≢ fails kind) →
+          (v : NodeFate) → ((kind : FailureKind) → v ≢ fails kind) →
           elim v as (λ _. AtEnds) [ succeeds ↦ good | fails kind ↦ bad 0 kind | arrives y ↦ good ] ≡ good
       go succeeds d = refl
       go (fails kind) d = absurd (d kind refl)
       go (arrives y) d = refl
 
-  -- One that fails there fails there first.
+  -- If it fails at column 0, this is the lowest end at which it fails.
   pub ends-bad : (x : ℕ) (kind : FailureKind) → fate t x 0 ≡ fails kind → atEnds t x ≡ bad 0 kind
   unfolding endKinds endsFrom
   ends-bad x kind e = rw (e, endsFrom)

@@ -1,5 +1,5 @@
--- The answer of the check computed on small tables, as a test of the definitions. There are two world states and one kind of
--- lamp; each lamp passed leads from one world state to the other.
+-- The answer of the check, computed on small tables as a test of the definitions. There are two world states and one kind of lamp;
+-- passing a lamp changes from one world state to the other.
 use mathlib.Core.Path.{_≡_, refl}
 use mathlib.Core.Bool.{Bool, true, cond}
 use mathlib.Core.Option.{Option, none, some}
@@ -13,10 +13,10 @@ use Rattle.lamp_line.specs.declared.FailureKind.the-variants.{NotLegal, NoBranc
 use Rattle.lamp_line.specs.Tables.{Outcome, outcome, Tables, programState, worldState, endKinds, lampColumn}
 use Rattle.lamp_line.specs.Check.{accepted, failed}
 use Rattle.lamp_line.specs.Run.{act, walk, ownSteps}
-use Rattle.run_laws.specs.Pairs.{pairNumber}
-use Rattle.run_laws.specs.Lines.{lineOf}
-use Rattle.check_laws.specs.Fates.{pairOf, fate, endsFrom}
-use Rattle.check_laws.specs.Search.{met, tried, labelsFrom, placesFrom, verdictOf}
+use Rattle.run_laws.specs.inner.Pairs.{pairNumber, pairOf}
+use Rattle.run_laws.specs.inner.Lines.{lineOf}
+use Rattle.check_laws.specs.inner.Fates.{fate, endsFrom}
+use Rattle.check_laws.specs.inner.Search.{met, tried, labelsFrom, placesFrom, verdictOf}
 
 -- Action 0 looks: its result is 0 at the line's end and 1 at a lamp. Action 1 passes a lamp.
 abbrev cells : Action → WorldState → ℕ → List Outcome
@@ -25,14 +25,14 @@ cells a w column =
     (outcome w (cond (eqb column 0) 0 1) ∷ [])
     (cond (eqb column 0) [] (outcome (worldState (1 - w .0)) 0 ∷ []))
 
--- State 0 looks: at the line's end it comes to state 2, which is final, and at a lamp to `seen`. State 1 passes a lamp.
+-- State 0 looks: at the line's end it goes to state 2, which is final, and at a lamp to `seen`. State 1 passes a lamp.
 abbrev targets : Option ProgramState → ProgramState → Result → Option ProgramState
 targets seen q r =
     cond (eqb (q .0) 0)
     (cond (eqb r 0) (some (programState 2)) seen)
     (cond (eqb r 0) (some (programState 0)) none)
 
--- The run starts at a program state, in world state 0, and the goal is true at the line's end in the worlds of `goal`.
+-- The plan begins in state `first`, in world state 0. The goal is true at the line's end, in the world states of `goal`.
 abbrev small : ℕ → Option ProgramState → (ℕ → Bool) → Tables
 small first seen goal =
     record {
@@ -50,17 +50,17 @@ small first seen goal =
       target = targets seen;
     }
 
--- What is computed.
+-- The answers.
 pub record SmallChecks : Type 0 where
-  -- Correct in both world states: the pairs of state 0 with each of them are reached.
+  -- The goal is true in both world states. State 0 is reached with each of them, so there are two pairs.
   pub correct : verdictOf (small 0 (some (programState 1)) (λ w. true)) ≡ accepted 2
   -- After one lamp, or any odd number of them, the goal is false.
   pub odd-lamps : verdictOf (small 0 (some (programState 1)) (λ w. eqb w 0)) ≡ failed GoalFalse (worldState 0) (lineOf 0 (1 ∷ []))
-  -- It looks at the lamp for ever.
+  -- State 0 looks at the lamp for ever.
   pub circling : verdictOf (small 0 (some (programState 0)) (λ w. true)) ≡ failed Circles (worldState 0) (lineOf 0 (1 ∷ []))
-  -- It has no branch for what it sees at a lamp.
+  -- State 0 has no branch for the result at a lamp.
   pub no-branch : verdictOf (small 0 none (λ w. true)) ≡ failed NoBranch (worldState 0) (lineOf 0 (1 ∷ []))
-  -- It passes a lamp first, and the line may be empty.
+  -- The plan passes a lamp first, but the line may be empty.
   pub not-legal : verdictOf (small 1 none (λ w. true)) ≡ failed NotLegal (worldState 0) (lineOf 0 [])
 
 -- Each holds by computation.

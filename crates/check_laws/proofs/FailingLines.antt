@@ -6,17 +6,18 @@ use native.Mathlib.Omega.{arith}
 use Rattle.lamp_line.specs.declared.WorldState.{WorldState}
 use Rattle.lamp_line.specs.declared.FailureKind.{FailureKind}
 use Rattle.lamp_line.specs.declared.Ending.the-variants.{Failure}
-use Rattle.lamp_line.specs.Tables.{Tables, WellFormed, Line, Fits, worldState, endKinds, lampColumn}
+use Rattle.lamp_line.specs.Tables.{Tables, Line, Fits, worldState, endKinds, lampColumn}
+use Rattle.lamp_line.specs.inner.WellFormed.{WellFormed}
 use Rattle.lamp_line.specs.Endings.{kindNumber}
 use Rattle.lamp_line.specs.Check.{Fails}
 use Rattle.lamp_line.specs.Run.{Pair, pair, Walk, ended, arrived, Run, ran, lampWalk, along}
-use Rattle.lamp_line.specs.Promises.{Run-of}
-use Rattle.run_laws.specs.Pairs.{InRange, pairNumber}
-use Rattle.run_laws.specs.Lines.{lineOf}
+use Rattle.lamp_line.specs.Tables.{Beginning}
+use Rattle.run_laws.specs.inner.Pairs.{InRange, pairNumber}
+use Rattle.run_laws.specs.inner.Lines.{lineOf}
 use Rattle.run_laws.proofs.Walks.{arrived-in-range, arrived-at-lamp}
 use Rattle.run_laws.proofs.Runs.{runAfter, along-ends, along-passes}
-use Rattle.search_laws.specs.Graph.{Fails as GraphFails, bad-end, bad-lamp, goes-on, FailsFrom}
-use Rattle.check_laws.specs.Fates.{fails, fateOf}
+use Rattle.search_laws.specs.inner.Graph.{FailsAlong, bad-end, bad-lamp, goes-on, FailsFrom}
+use Rattle.check_laws.specs.inner.Fates.{fails, fateOf}
 use Rattle.check_laws.proofs.FateLaws.{kind-number-injective, fate-of-pair, fails-walk, arrives-walk}
 use Rattle.check_laws.proofs.TableGraph.{graph, start-in-range}
 use Rattle.check_laws.proofs.RunLeads.{leads-run, run-leads}
@@ -25,7 +26,7 @@ module _ (t : Tables) (wf : WellFormed t) (end : ℕ) (is-end : end < endKinds t
   abbrev number : Pair → ℕ
   number p = pairNumber (t .worlds) p
 
-  -- The run from a pair along these lamps fails so.
+  -- The run from a pair along these lamps ends with this failure.
   abbrev AlongFails : FailureKind → List ℕ → Pair → Type 0
   AlongFails kind lamps p = (k : ℕ) × (along t end lamps p ≡ ran (Failure kind) k)
 
@@ -33,10 +34,10 @@ module _ (t : Tables) (wf : WellFormed t) (end : ℕ) (is-end : end < endKinds t
 
   run-fails :
       (kind : FailureKind) (lamps : List ℕ) (p : Pair) → InRange t p → (k : ℕ) → along t end lamps p ≡ ran (Failure kind) k →
-      GraphFails (graph t) (number p) lamps end (kindNumber kind)
+      FailsAlong (graph t) (number p) lamps end (kindNumber kind)
   run-fails kind [] p range k h = go (lampWalk t p end) refl
     where
-      go : (v : Walk) → lampWalk t p end ≡ v → GraphFails (graph t) (number p) [] end (kindNumber kind)
+      go : (v : Walk) → lampWalk t p end ≡ v → FailsAlong (graph t) (number p) [] end (kindNumber kind)
       go (ended x n) e =
           let f = along-ends t end [] p x n e in
           let same : ended x n ≡ ended (Failure kind) n = cc in
@@ -48,8 +49,8 @@ module _ (t : Tables) (wf : WellFormed t) (end : ℕ) (is-end : end < endKinds t
       go (λ p′ range′ (m, g). run-fails kind lamps p′ range′ m g) (lampWalk t p (lampColumn t c)) refl
     where
       go :
-          ((p′ : Pair) → InRange t p′ → AlongFails kind lamps p′ → GraphFails (graph t) (number p′) lamps end (kindNumber kind)) →
-          (v : Walk) → lampWalk t p (lampColumn t c) ≡ v → GraphFails (graph t) (number p) (c ∷ lamps) end (kindNumber kind)
+          ((p′ : Pair) → InRange t p′ → AlongFails kind lamps p′ → FailsAlong (graph t) (number p′) lamps end (kindNumber kind)) →
+          (v : Walk) → lampWalk t p (lampColumn t c) ≡ v → FailsAlong (graph t) (number p) (c ∷ lamps) end (kindNumber kind)
       go after (ended x n) e =
           let f = along-ends t end (c ∷ lamps) p x n e in
           let same : ended x n ≡ ended (Failure kind) n = cc in
@@ -68,7 +69,7 @@ module _ (t : Tables) (wf : WellFormed t) (end : ℕ) (is-end : end < endKinds t
   FailsSo f lamps p = (kind : FailureKind) × (kindNumber kind ≡ f) × AlongFails kind lamps p
 
   fails-run :
-      {x f : ℕ} {lamps : List ℕ} → GraphFails (graph t) x lamps end f → (p : Pair) → x ≡ number p → InRange t p → FailsSo f lamps p
+      {x f : ℕ} {lamps : List ℕ} → FailsAlong (graph t) x lamps end f → (p : Pair) → x ≡ number p → InRange t p → FailsSo f lamps p
   fails-run (bad-end (kind, e, n)) p q range =
       let (k, w) = fails-walk (t .worlds) kind (lampWalk t p end) (sym (fate-of-pair t p end range) ∙ (rw q at e)) in
       (kind, n, (k, along-ends t end [] p (Failure kind) k w))
@@ -97,28 +98,27 @@ module _ (t : Tables) (wf : WellFormed t) where
   fails-in-graph kind start line d =
       record {
         first = pairNumber (t .worlds) (pair (t .first) start);
-        start = (d .marked, refl);
-        of-kinds = d .fits .of-kinds;
-        ended = d .fits .ended;
+        start = (d .beginning .marked, refl);
+        of-kinds = d .beginning .fits .of-kinds;
+        ended = d .beginning .fits .ended;
         fails =
-            let (k, e) = leads-run t wf start line (record { marked = d .marked; fits = d .fits }) (Failure kind) (d .leads) in
-            let range = start-in-range t wf start (d .marked) in
-            run-fails t wf (line .end) (d .fits .ended) kind (line .lamps) (pair (t .first) start) range k e;
+            let (k, e) = leads-run t wf start line (d .beginning) (Failure kind) (d .leads) in
+            let range = start-in-range t wf start (d .beginning .marked) in
+            run-fails t wf (line .end) (d .beginning .fits .ended) kind (line .lamps) (pair (t .first) start) range k e;
       }
 
-  -- What fails in the graph with the number of a kind is a line that fails so.
+  -- What fails in the graph with the number of a failure kind is a line that fails with this kind.
   pub graph-fails :
       (kind : FailureKind) (s end : ℕ) (lamps : List ℕ) → FailsFrom (graph t) s lamps end (kindNumber kind) →
       Fails t kind (worldState s) (lineOf end lamps)
   graph-fails kind s end lamps d =
       let (marked, first) = d .start in
       let fits : Fits t (lineOf end lamps) = record { of-kinds = d .of-kinds; ended = d .ended } in
-      let of : Run-of t (worldState s) (lineOf end lamps) = record { marked = marked; fits = fits } in
+      let beginning : Beginning t (worldState s) (lineOf end lamps) = record { marked = marked; fits = fits } in
       let p = pair (t .first) (worldState s) in
       let (kind′, n, along) = fails-run t wf end (d .ended) (d .fails) p first (start-in-range t wf (worldState s) marked) in
       let same : kind′ ≡ kind = kind-number-injective kind′ kind n in
       record {
-        marked = marked;
-        fits = fits;
-        leads = run-leads t wf (worldState s) (lineOf end lamps) of (Failure kind) (rw same at along);
+        beginning = beginning;
+        leads = run-leads t wf (worldState s) (lineOf end lamps) beginning (Failure kind) (rw same at along);
       }

@@ -1,8 +1,7 @@
--- Pairs by their numbers, and what the fate of a pair says of the one-lamp walk.
-use mathlib.Core.Path.{_≡_, refl, sym, ap, ap₂, _∙_}
+-- Laws of pairs as numbers, and what the fate of a pair says about the one-lamp walk.
+use mathlib.Core.Path.{_≡_, refl, sym, ap, _∙_}
 use mathlib.Core.Bool.{true, cond}
 use Prim.Native.Nat.{ℕ, zero, suc, _+_, _*_, _<_}
-use native.Mathlib.Nat.{mul-add-div-right, mul-add-mod-self-right, div-eq-of-lt, mod-eq-of-lt, add-zero}
 use native.Mathlib.Decide.{ℕ-discrete}
 use native.Mathlib.Omega.{arith}
 use borrow.Author.Tests.{eq-eqb}
@@ -10,18 +9,18 @@ use lib.Dec.{eqb}
 use Rattle.lamp_line.specs.declared.FailureKind.{FailureKind}
 use Rattle.lamp_line.specs.declared.FailureKind.the-variants.{NotLegal, NoBranch, Circles, GoalFalse}
 use Rattle.lamp_line.specs.declared.Ending.the-variants.{Goal, Failure}
-use Rattle.lamp_line.specs.Tables.{Tables, programState, worldState}
+use Rattle.lamp_line.specs.Tables.{Tables}
 use Rattle.lamp_line.specs.Endings.{kindNumber}
-use Rattle.lamp_line.specs.Run.{Pair, pair, Walk, ended, arrived, isFinal, judged, walk, lampWalk}
-use Rattle.run_laws.specs.Pairs.{InRange, pairNumber}
-use Rattle.run_laws.proofs.Pairs.{pair-number-bound}
+use Rattle.lamp_line.specs.Run.{Pair, Walk, ended, arrived, isFinal, judged, walk, lampWalk}
+use Rattle.run_laws.specs.inner.Pairs.{InRange, pairNumber}
+use Rattle.run_laws.proofs.Pairs.{pair-of-number, pair-number-bound}
 use Rattle.run_laws.proofs.Actions.{act-final}
 use Rattle.run_laws.proofs.Walks.{walk-spent, walk-ends}
-use Rattle.check_laws.specs.Fates.{pairOf, fails, arrives, fateOf, fate}
+use Rattle.check_laws.specs.inner.Fates.{fails, arrives, fateOf, fate}
 
 -- ---- numbers of failures and of pairs
 
--- Kinds of failure with one number are one.
+-- Failure kinds with the same number are equal.
 pub kind-number-injective : (kind kind′ : FailureKind) → kindNumber kind ≡ kindNumber kind′ → kind ≡ kind′
 kind-number-injective kind kind′ e = sym (back kind) ∙ ap kindFrom e ∙ back kind′
   where
@@ -34,24 +33,16 @@ kind-number-injective kind kind′ e = sym (back kind) ∙ ap kindFrom e ∙ bac
     back Circles = refl
     back GoalFalse = refl
 
--- The pair with the number of a pair is that pair.
-pub pair-of-number : (worlds : ℕ) (p : Pair) → p .world .0 < worlds → pairOf worlds (pairNumber worlds p) ≡ p
-unfolding pairOf pairNumber
-pair-of-number worlds p h =
-    ap₂ (λ q w. pair (programState q) (worldState w))
-    (mul-add-div-right (omega arith) (p .state .0) (p .world .0) ∙ (rw (div-eq-of-lt h) (add-zero (p .state .0))))
-    (mul-add-mod-self-right (p .state .0) worlds (p .world .0) ∙ mod-eq-of-lt h)
-
 -- ---- walks and fates
 
 module _ (worlds : ℕ) where
-  -- Where the fate is a failure, the walk ends with it.
+  -- If the fate is a failure, the walk ends with it.
   pub fails-walk : (kind : FailureKind) (v : Walk) → fateOf worlds v ≡ fails kind → (k : ℕ) × (v ≡ ended (Failure kind) k)
   fails-walk kind (ended Goal k) e = absurd (let z : _≡_ {A = ℕ} 0 1 = cc in omega arith)
   fails-walk kind (ended (Failure kind′) k) e = (k, cc)
   fails-walk kind (arrived p k) e = absurd (let z : _≡_ {A = ℕ} 0 1 = cc in omega arith)
 
-  -- Where the fate is an arrival, the walk arrives so.
+  -- If the fate is an arrival, the walk arrives with the pair of this number.
   pub arrives-walk :
       (y : ℕ) (v : Walk) → fateOf worlds v ≡ arrives y → (p : Pair) × (k : ℕ) × (v ≡ arrived p k) × (y ≡ pairNumber worlds p)
   arrives-walk y (ended Goal k) e = absurd (let z : _≡_ {A = ℕ} 0 1 = cc in omega arith)
@@ -65,14 +56,14 @@ module _ (t : Tables) where
       let h : p .state .0 < t .states + 1 = omega (arith, range .state-range) in
       pair-number-bound (t .states + 1) (t .worlds) p h (range .world-range)
 
-  -- The fate of a pair by its number.
+  -- The fate of a pair of the tables, by its number, is the fate that its walk gives.
   pub fate-of-pair :
       (p : Pair) (c : ℕ) → InRange t p → fate t (pairNumber (t .worlds) p) c ≡ fateOf (t .worlds) (lampWalk t p c)
   unfolding fate
   fate-of-pair p c range =
       ap (λ (q : Pair). fateOf (t .worlds) (lampWalk t q c)) (pair-of-number (t .worlds) p (range .world-range))
 
-  -- In the final state no walk arrives.
+  -- A walk that arrives did not begin in the final state.
   pub arrived-not-final : (n : ℕ) (p p′ : Pair) (c k : ℕ) → InRange t p → walk t n p c ≡ arrived p′ k → p .state .0 < t .states
   arrived-not-final n p p′ c k range e = go (ℕ-discrete (p .state .0) (t .states))
     where

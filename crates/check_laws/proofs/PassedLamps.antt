@@ -1,5 +1,5 @@
--- Where an execution passes a lamp, the graph of the tables reaches the pair to which it comes. The execution is compared with
--- the walk at its first lamp: the walk passes this lamp too, and the execution goes on from there.
+-- If an execution passes a lamp, the graph of the tables reaches the pair with which it arrives. The proof compares the execution
+-- with the walk at its first lamp: the walk passes this lamp too, and the execution goes on from there.
 use mathlib.Core.Path.{_≡_, refl, sym, ap, ap₂, subst, subst₂, _∙_}
 use mathlib.Core.Logic.{_⊎_, inl, inr}
 use mathlib.Core.Bool.{Bool, true, false, cond}
@@ -13,24 +13,25 @@ use Rattle.plans.specs.Execution.{Label, actionOf, Step, T*, here, join, step}
 use Rattle.lamp_line.specs.declared.ProgramState.{ProgramState}
 use Rattle.lamp_line.specs.declared.WorldState.{WorldState}
 use Rattle.lamp_line.specs.declared.Ending.{Ending}
-use Rattle.lamp_line.specs.Tables.{Tables, WellFormed, Line, Situation, Kinds, movesOn, passed, endKinds}
+use Rattle.lamp_line.specs.Tables.{Tables, Line, Situation, Kinds, movesOn, passed, endKinds}
+use Rattle.lamp_line.specs.inner.WellFormed.{WellFormed}
 use Rattle.lamp_line.specs.Tables.{lampColumn, lampTheory, planOf}
 use Rattle.lamp_line.specs.Check.{situation}
 use Rattle.lamp_line.specs.Run.{Pair, pair, Walk, ended, arrived, lampWalk}
 use Rattle.plans.proofs.Executions.{LastStep, shared-beginning, same-length-same-execution, longest}
-use Rattle.run_laws.specs.Pairs.{InRange, pairNumber}
+use Rattle.run_laws.specs.inner.Pairs.{InRange, pairNumber}
 use Rattle.run_laws.proofs.Steps.{steps-determined, end-kept, step-passes}
-use Rattle.run_laws.specs.Lines.{lineOf}
+use Rattle.run_laws.specs.inner.Lines.{lineOf}
 use Rattle.run_laws.proofs.Actions.{ExecutionAt, ends-halted}
 use Rattle.run_laws.proofs.Walks.{WalkMeans, rests, lingers, Arrives, arrives, walk-means, arrived-in-range, arrived-at-lamp}
 use Rattle.run_laws.proofs.Circling.{lingers-passes-none}
-use Rattle.search_laws.specs.Lists.{_▸_}
-use Rattle.search_laws.specs.Graph.{Reach, past-lamp}
-use Rattle.check_laws.specs.Fates.{fateOf}
+use Rattle.search_laws.specs.inner.Lists.{_▸_}
+use Rattle.search_laws.specs.inner.Graph.{Reach, past-lamp}
+use Rattle.check_laws.specs.inner.Fates.{fateOf}
 use Rattle.check_laws.proofs.FateLaws.{fate-of-pair}
 use Rattle.check_laws.proofs.TableGraph.{graph}
 
--- An execution never has more lamps before it than at its beginning.
+-- An execution never has more lamps left than at its beginning.
 lamps-never-more :
     (t : Tables) {ls : List Label} {q q′ : ProgramState} {s s′ : Situation} → T* (lampTheory t) (planOf t) ls q s q′ s′ →
     length (s′ .rest .lamps) ≤ length (s .rest .lamps)
@@ -56,7 +57,7 @@ module _ (t : Tables) (wf : WellFormed t) (end : ℕ) (is-end : end < endKinds t
   abbrev number : Pair → ℕ
   number p = pairNumber (t .worlds) p
 
-  -- From p₀ at these lamps the execution comes by the steps ms and a last one, which moves on, to p.
+  -- From p₀ at these lamps, the execution reaches p by the steps ms and a last step, which moves on.
   pub record Passes (lamps : List ℕ) (p₀ : Pair) (ms : List Label) (p : Pair) : Type 0 where
     pub rest : Line
     pub label : Label
@@ -64,7 +65,7 @@ module _ (t : Tables) (wf : WellFormed t) (end : ℕ) (is-end : end < endKinds t
     pub moves-on : movesOn t (actionOf label) ≡ true
 
   module _ (lamps : List ℕ) (p₀ : Pair) (ms : List Label) (p : Pair) (b : Passes lamps p₀ ms p) where
-    -- The whole of it.
+    -- The execution with its last step.
     whole : ExecutionAt t p₀ (lineOf end lamps) (ms ++ (b .label ∷ [])) p (b .rest)
     whole = join (b .by .before) (step (b .by .last))
 
@@ -73,13 +74,13 @@ module _ (t : Tables) (wf : WellFormed t) (end : ℕ) (is-end : end < endKinds t
         let h : b .by .at .rest .end < endKinds t = rw (end-kept t wf (b .by .before)) is-end in
         omega (arith, step-passes t wf (b .by .last) (b .moves-on) h)
 
-    -- From there no execution comes back to the first lamp.
+    -- From p no execution leads back to the first lamp.
     no-return :
         {ns : List Label} {q : ProgramState} {w : WorldState} →
         ¬ (T* D P ns (p .state) (situation (p .world) (b .rest)) q (situation w (lineOf end lamps)))
     no-return a = omega (arith, one-lamp-fewer, lamps-never-more t (b .by .before), lamps-never-more t a)
 
-    -- So the walk at the first lamp does not end there.
+    -- So the walk at the first lamp does not end the run there.
     not-ended : (x : Ending) (k : ℕ) → InRange t p₀ → ¬ (WalkMeans t (lineOf end lamps) (t .states * t .worlds) p₀ (ended x k))
     not-ended x k range (rests r) =
         let det = steps-determined t wf in
@@ -94,7 +95,7 @@ module _ (t : Tables) (wf : WellFormed t) (end : ℕ) (is-end : end < endKinds t
         (stays (ms ++ (b .label ∷ [])) (p .state) (situation (p .world) (b .rest)) whole) in
         omega (arith, one-lamp-fewer)
 
-  -- The walk passes the first lamp: to p, or to where the execution has still to pass a lamp.
+  -- The walk passes the first lamp and arrives with p, or with a pair from which the execution has still to pass a lamp.
   passes-later :
       (c : ℕ) (lamps : List ℕ) (p₀ p p′ : Pair) (k : ℕ) (ms : List Label) → Passes (c ∷ lamps) p₀ ms p →
       Arrives t p₀ (lineOf end (c ∷ lamps)) p′ k → (p′ ≡ p) ⊎ ((ns : List Label) × Passes lamps p′ ns p)
@@ -132,7 +133,7 @@ module _ (t : Tables) (wf : WellFormed t) (end : ℕ) (is-end : end < endKinds t
             },
           )
 
-  -- The graph reaches the pair to which the execution comes.
+  -- The graph reaches the pair with which the execution arrives.
   pub passes-reached :
       (s : ℕ) (lamps : List ℕ) (p₀ : Pair) (pre : List ℕ) → InRange t p₀ → Kinds (t .kinds) lamps →
       Reach (graph t) s pre (number p₀) → (p : Pair) (ms : List Label) → Passes lamps p₀ ms p →

@@ -7,20 +7,21 @@ use Prim.Native.Nat.{ℕ, _*_}
 use native.Mathlib.Omega.{arith}
 use lib.ListN.{length}
 use Rattle.plans.specs.Execution.{Label, here, join, step}
-use Rattle.lamp_line.specs.Tables.{Tables, WellFormed, Kinds, Situation, worldState, lampColumn, lampTheory, planOf}
+use Rattle.lamp_line.specs.Tables.{Tables, Kinds, Situation, worldState, lampColumn, lampTheory, planOf}
+use Rattle.lamp_line.specs.inner.WellFormed.{WellFormed}
 use Rattle.lamp_line.specs.Check.{Arrival, Reached}
 use Rattle.lamp_line.specs.Run.{Pair, pair, Walk, arrived, lampWalk}
 use Rattle.plans.proofs.Executions.{last-step, same-length-same-execution}
-use Rattle.run_laws.specs.Pairs.{InRange, pairNumber}
+use Rattle.run_laws.specs.inner.Pairs.{InRange, pairNumber}
 use Rattle.run_laws.proofs.Steps.{steps-determined}
-use Rattle.run_laws.specs.Lines.{lineOf}
+use Rattle.run_laws.specs.inner.Lines.{lineOf}
 use Rattle.run_laws.proofs.Actions.{ExecutionAt}
 use Rattle.run_laws.proofs.Walks.{WalkMeans, Arrives, arrives, walk-means, arrived-in-range}
-use Rattle.search_laws.specs.Lists.{_▸_}
-use Rattle.search_laws.specs.Graph.{Kind, Reach, from-start, past-lamp}
+use Rattle.search_laws.specs.inner.Lists.{_▸_}
+use Rattle.search_laws.specs.inner.Graph.{Kind, Reach, from-start, past-lamp}
 use Rattle.search_laws.proofs.Graph.{snoc-append}
 use Rattle.search_laws.proofs.Shortness.{kinds-append}
-use Rattle.check_laws.specs.Fates.{arrives as arrives-with, fate}
+use Rattle.check_laws.specs.inner.Fates.{arrives as arrives-with, fate}
 use Rattle.check_laws.proofs.FateLaws.{fate-of-pair, arrives-walk}
 use Rattle.check_laws.proofs.TableGraph.{one-end-kind, graph, start-in-range}
 use Rattle.check_laws.proofs.PassedLamps.{Passes, passes-reached}
@@ -34,7 +35,7 @@ module _ (t : Tables) (wf : WellFormed t) where
   reached-in-graph p r = go (r .arrives)
     where
       begins : Reach (graph t) (r .start .0) [] (number (pair (t .first) (r .start)))
-      begins = from-start (r .marked, refl)
+      begins = from-start (r .beginning .marked, refl)
 
       go : Arrival t (r .labels) → (s : ℕ) × (pre : List ℕ) × Reach (graph t) s pre (number p)
       go (inl e) =
@@ -45,7 +46,7 @@ module _ (t : Tables) (wf : WellFormed t) where
           let same : pair (t .first) (r .start) ≡ p = ap₂ pair same-state same-world in
           (r .start .0, [], subst (λ (q : Pair). Reach (graph t) (r .start .0) [] (number q)) same begins)
       go (inr (ms, l, e, moves)) =
-          let b : Passes t wf (r .line .end) (r .fits .ended) (r .line .lamps) (pair (t .first) (r .start)) ms p =
+          let b : Passes t wf (r .line .end) (r .beginning .fits .ended) (r .line .lamps) (pair (t .first) (r .start)) ms p =
           record {
             rest = r .rest;
             label = l;
@@ -53,14 +54,15 @@ module _ (t : Tables) (wf : WellFormed t) where
             moves-on = moves;
           } in
           let (pre, reach) =
-          passes-reached t wf (r .line .end) (r .fits .ended) (r .start .0) (r .line .lamps) (pair (t .first) (r .start)) []
-          (start-in-range t wf (r .start) (r .marked)) (r .fits .of-kinds) begins p ms b in
+          passes-reached t wf (r .line .end) (r .beginning .fits .ended) (r .start .0) (r .line .lamps) (pair (t .first) (r .start)) []
+          (start-in-range t wf (r .start) (r .beginning .marked)) (r .beginning .fits .of-kinds) begins p ms b in
           (r .start .0, pre, reach)
 
   -- ---- from the graph to executions
 
-  -- Along any line that begins with these lamps the execution from the start comes to a pair of this number, just past them.
-  record Comes (s : ℕ) (pre : List ℕ) (x : ℕ) : Type 0 where
+  -- Along every line that begins with these lamps, the execution from the start arrives with the pair of this number, directly
+  -- after passing them.
+  record ReachedBy (s : ℕ) (pre : List ℕ) (x : ℕ) : Type 0 where
     pub at : Pair
     pub is : x ≡ number at
     pub range : InRange t at
@@ -70,7 +72,7 @@ module _ (t : Tables) (wf : WellFormed t) where
         (rest : List ℕ) → (ls : List Label) × Arrival t ls ×
         ExecutionAt t (pair (t .first) (worldState s)) (lineOf 0 (pre ++ rest)) ls at (lineOf 0 rest)
 
-  -- An execution to a lamp, and then the walk that passes it.
+  -- An execution that arrives at a lamp, followed by the walk that passes it.
   past-one-more :
       {ls : List Label} {p₀ p p′ : Pair} {c k : ℕ} {lamps rest : List ℕ} →
       ExecutionAt t p₀ (lineOf 0 lamps) ls p (lineOf 0 (c ∷ rest)) → Arrives t p (lineOf 0 (c ∷ rest)) p′ k →
@@ -92,8 +94,8 @@ module _ (t : Tables) (wf : WellFormed t) where
       go (arrives a) = a
 
   comes-on :
-      (s : ℕ) (pre : List ℕ) (x c y : ℕ) → Comes s pre x → Kind (t .kinds) c → fate t x (lampColumn t c) ≡ arrives-with y →
-      Comes s (pre ▸ c) y
+      (s : ℕ) (pre : List ℕ) (x c y : ℕ) → ReachedBy s pre x → Kind (t .kinds) c → fate t x (lampColumn t c) ≡ arrives-with y →
+      ReachedBy s (pre ▸ c) y
   comes-on s pre x c y came kind to =
       go (arrives-walk (t .worlds) y (lampWalk t (came .at) (lampColumn t c))
       (sym (fate-of-pair t (came .at) (lampColumn t c) (came .range)) ∙ (rw (came .is) at to)))
@@ -106,7 +108,7 @@ module _ (t : Tables) (wf : WellFormed t) where
           rw (snoc-append pre c rest) (past-one-more (came .past (c ∷ rest) .2) (walk-arrives (came .at) p c k rest e))
 
       go :
-          (p : Pair) × (k : ℕ) × (lampWalk t (came .at) (lampColumn t c) ≡ arrived p k) × (y ≡ number p) → Comes s (pre ▸ c) y
+          (p : Pair) × (k : ℕ) × (lampWalk t (came .at) (lampColumn t c) ≡ arrived p k) × (y ≡ number p) → ReachedBy s (pre ▸ c) y
       go (p, k, e, n) =
           record {
             at = p;
@@ -117,7 +119,7 @@ module _ (t : Tables) (wf : WellFormed t) where
             past = past p k e;
           }
 
-  reach-comes : {s x : ℕ} {pre : List ℕ} → Reach (graph t) s pre x → Comes s pre x
+  reach-comes : {s x : ℕ} {pre : List ℕ} → Reach (graph t) s pre x → ReachedBy s pre x
   reach-comes (from-start {s = s} (marked, e)) =
       record {
         at = pair (t .first) (worldState s);
@@ -129,7 +131,7 @@ module _ (t : Tables) (wf : WellFormed t) where
       }
   reach-comes (past-lamp {s = s} {x = x} {c = c} {y = y} {p = pre} r kind to) = comes-on s pre x c y (reach-comes r) kind to
 
-  -- What is reached in the graph is the number of a pair that is reached.
+  -- A node that is reached in the graph is the number of a pair that is reached.
   pub graph-reached :
       {s x : ℕ} {pre : List ℕ} → Reach (graph t) s pre x → (p : Pair) × (x ≡ number p) × InRange t p × Reached t p
   graph-reached {s} {x} {pre} r =
@@ -141,10 +143,12 @@ module _ (t : Tables) (wf : WellFormed t) where
         record {
           start = worldState s;
           line = lineOf 0 (pre ++ []);
-          marked = came .marked;
-          fits = record {
-            of-kinds = kinds-append (t .kinds) pre [] (came .of-kinds) (unfold Kinds in tt);
-            ended = omega (arith, one-end-kind t);
+          beginning = record {
+            marked = came .marked;
+            fits = record {
+              of-kinds = kinds-append (t .kinds) pre [] (came .of-kinds) (unfold Kinds in tt);
+              ended = omega (arith, one-end-kind t);
+            };
           };
           labels = ls;
           rest = lineOf 0 [];

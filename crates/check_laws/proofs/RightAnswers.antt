@@ -1,5 +1,5 @@
--- What the search comes to is a right answer of the check: its least failing line is the counterexample, and where no line fails
--- the plan is correct and the entries of the table are the pairs reached.
+-- The results of the search are right answers of the check: its least failing line is the counterexample; and if no line fails, the
+-- plan is correct and the entries of the table are the reached pairs.
 use mathlib.Core.Path.{_≡_, refl, sym, ap, subst, _∙_}
 use mathlib.Core.List.{List, [], map}
 use Prim.Native.Nat.{ℕ, _+_, _*_, _≤_, _<_}
@@ -9,22 +9,21 @@ use Rattle.plans.specs.Execution.{Label, T*, Correct}
 use Rattle.lamp_line.specs.declared.FailureKind.{FailureKind}
 use Rattle.lamp_line.specs.declared.Ending.the-variants.{Goal, Failure}
 use Rattle.lamp_line.specs.Lists.{_∈_}
-use Rattle.lamp_line.specs.Tables.{Tables, WellFormed, Situation, worldState, final, lampTheory, lampProblem, planOf}
+use Rattle.lamp_line.specs.Tables.{Tables, Situation, worldState, final, lampTheory, lampProblem, planOf}
+use Rattle.lamp_line.specs.inner.WellFormed.{WellFormed}
 use Rattle.lamp_line.specs.Endings.{kindNumber, Ends, Leads}
 use Rattle.lamp_line.specs.Check.{rank, Counterexample, Reached, Accepts}
 use Rattle.lamp_line.specs.Run.{Pair, Run, ran, run}
-use Rattle.lamp_line.specs.Promises.{Run-of}
-use Rattle.run_laws.specs.Pairs.{pairNumber}
+use Rattle.run_laws.specs.inner.Pairs.{pairNumber, pairOf}
 use Rattle.run_laws.proofs.Steps.{execution-in-range}
-use Rattle.run_laws.specs.Lines.{lineOf}
+use Rattle.run_laws.specs.inner.Lines.{lineOf}
 use Rattle.search_laws.proofs.Keys.{stem-is, key-stem-order}
-use Rattle.search_laws.specs.Graph.{FailsFrom}
+use Rattle.search_laws.specs.inner.Graph.{FailsFrom}
 use Rattle.search_laws.proofs.Graph.{Least}
-use Rattle.search_laws.specs.Entries.{Entry, entry, node}
+use Rattle.search_laws.specs.inner.Entries.{Entry, entry, node}
 use Rattle.search_laws.proofs.Shortness.{least-short}
 use Rattle.search_laws.proofs.Turns.{At, accepted, reached-in-table}
-use Rattle.check_laws.specs.Fates.{pairOf}
-use Rattle.check_laws.proofs.FateLaws.{pair-of-number}
+use Rattle.run_laws.proofs.Pairs.{pair-of-number}
 use Rattle.check_laws.proofs.TableGraph.{graph, PairNumber, start-in-range, start-numbered, coded}
 use Rattle.check_laws.proofs.RunLeads.{run-leads}
 use Rattle.check_laws.proofs.FailingLines.{fails-in-graph, graph-fails}
@@ -49,15 +48,12 @@ module _ (t : Tables) (wf : WellFormed t) where
             s l e (kindNumber kind) least;
       }
 
-  -- Where no line fails in the graph, the plan is correct.
+  -- If no line fails in the graph, the plan is correct.
   none-fails-correct :
       ((s : ℕ) (l : List ℕ) (e f : ℕ) → ¬ (FailsFrom (graph t) s l e f)) → Correct (lampProblem t) (planOf t)
   unfolding Correct Leads Ends
-  none-fails-correct none s (marked, fits) = go (run t (s .world) (s .rest)) refl
+  none-fails-correct none s of = go (run t (s .world) (s .rest)) refl
     where
-      of : Run-of t (s .world) (s .rest)
-      of = record { marked = marked; fits = fits }
-
       go :
           (r : Run) → run t (s .world) (s .rest) ≡ r →
           (ls : List Label) × (s′ : Situation) × T* (lampTheory t) (planOf t) ls (t .first) s (final t) s′ × lampProblem t .Goal s′
@@ -67,15 +63,15 @@ module _ (t : Tables) (wf : WellFormed t) where
       go (ran (Failure kind) k) e =
           let leads = run-leads t wf (s .world) (s .rest) of (Failure kind) (k, e) in
           absurd (none (s .world .0) (s .rest .lamps) (s .rest .end) (kindNumber kind)
-          (fails-in-graph t wf kind (s .world) (s .rest) (record { marked = marked; fits = fits; leads = leads })))
+          (fails-in-graph t wf kind (s .world) (s .rest) (record { beginning = of; leads = leads })))
 
-  -- ---- the table of a search that is through
+  -- ---- the table of a search that is complete
 
   module _ (E : List Entry) (h : ℕ) (at : At (graph t) E h (t .kinds + 1)) (end : length E ≤ h + 1) where
     pairAt : Entry → Pair
     pairAt v = pairOf (t .worlds) (v .node)
 
-    -- The number of the pair at a place is the node there, and the pair is reached.
+    -- The pair at a place has the node there as its number, and it is reached.
     entry-reached :
         (i : ℕ) → i < length E →
         (pairNumber (t .worlds) (pairOf (t .worlds) (node E i)) ≡ node E i) × Reached t (pairOf (t .worlds) (node E i))
@@ -90,7 +86,7 @@ module _ (t : Tables) (wf : WellFormed t) where
     reached-listed p r =
         let (s, pre, reach) = reached-in-graph t wf p r in
         let (j, l, is) = reached-in-table (graph t) E h at end reach in
-        let range = execution-in-range t wf (r .execution) (start-in-range t wf (r .start) (r .marked)) in
+        let range = execution-in-range t wf (r .execution) (start-in-range t wf (r .start) (r .beginning .marked)) in
         let same = ap (pairOf (t .worlds)) is ∙ pair-of-number (t .worlds) p (range .world-range) in
         subst (λ (q : Pair). q ∈ map pairAt E) same (at-place-in pairAt (entry 0 0 []) E j l)
 

@@ -1,4 +1,4 @@
--- The run of a line ends so exactly when the execution leads to this ending, with no word of steps.
+-- The run of a line has an ending exactly when the execution leads to this ending, whatever the number of steps.
 use mathlib.Core.Path.{_≡_, refl}
 use Prim.Native.Nat.{ℕ, _+_}
 use lib.ListN.{length}
@@ -6,17 +6,19 @@ use Rattle.lamp_line.specs.declared.WorldState.{WorldState}
 use Rattle.lamp_line.specs.declared.FailureKind.the-variants.{NotLegal, NoBranch, Circles, GoalFalse}
 use Rattle.lamp_line.specs.declared.Ending.{Ending}
 use Rattle.lamp_line.specs.declared.Ending.the-variants.{Goal, Failure}
-use Rattle.lamp_line.specs.Tables.{Tables, WellFormed, Line, lampProblem, planOf}
+use Rattle.lamp_line.specs.Tables.{Tables, Line, lampProblem, planOf}
+use Rattle.lamp_line.specs.inner.WellFormed.{WellFormed}
 use Rattle.lamp_line.specs.Endings.{Rests, Leads}
 use Rattle.lamp_line.specs.Check.{situation}
 use Rattle.lamp_line.specs.Run.{ran, ownSteps, run}
-use Rattle.lamp_line.specs.Promises.{Run-of, RestsAfter, Comes}
+use Rattle.lamp_line.specs.Tables.{Beginning}
+use Rattle.lamp_line.specs.Executions.{RestsAfter, Comes}
 use Rattle.run_laws.proofs.RunIsExecution.{run-is-execution, circles-forever}
 
-module _ (t : Tables) (wf : WellFormed t) (start : WorldState) (line : Line) (of : Run-of t start line) where
-  -- The run ends so, after some number of steps.
-  abbrev pub RunEnds : Ending → Type 0
-  RunEnds x = (k : ℕ) × (run t start line ≡ ran x k)
+module _ (t : Tables) (wf : WellFormed t) (start : WorldState) (line : Line) (of : Beginning t start line) where
+  -- The run has this ending, with some number of steps.
+  abbrev pub RunComesTo : Ending → Type 0
+  RunComesTo x = (k : ℕ) × (run t start line ≡ ran x k)
 
   abbrev RestsSo : Ending → Type 0
   RestsSo x = Rests (lampProblem t) (planOf t) x (t .first) (situation start line)
@@ -30,8 +32,8 @@ module _ (t : Tables) (wf : WellFormed t) (start : WorldState) (line : Line) (of
   after-rests : {x : Ending} {k : ℕ} → RestsAfter t x k start line → RestsSo x
   after-rests r = (r .labels, r .state, r .at, r .execution, r .ends)
 
-  -- Where the execution leads to an ending, the run ends so.
-  pub leads-run : (x : Ending) → Leads (lampProblem t) (planOf t) x (t .first) (situation start line) → RunEnds x
+  -- If the execution leads to an ending, the run has this ending.
+  pub leads-run : (x : Ending) → Leads (lampProblem t) (planOf t) x (t .first) (situation start line) → RunComesTo x
   unfolding Leads Comes
   leads-run Goal h = let (k, r) = rests-after Goal h in (k, run-is-execution t wf start line of Goal k .1 r)
   leads-run (Failure NotLegal) h =
@@ -42,8 +44,8 @@ module _ (t : Tables) (wf : WellFormed t) (start : WorldState) (line : Line) (of
   leads-run (Failure GoalFalse) h =
       let (k, r) = rests-after (Failure GoalFalse) h in (k, run-is-execution t wf start line of (Failure GoalFalse) k .1 r)
 
-  -- Where the run ends so, the execution leads to this ending.
-  pub run-leads : (x : Ending) → RunEnds x → Leads (lampProblem t) (planOf t) x (t .first) (situation start line)
+  -- If the run has an ending, the execution leads to it.
+  pub run-leads : (x : Ending) → RunComesTo x → Leads (lampProblem t) (planOf t) x (t .first) (situation start line)
   unfolding Leads Comes
   run-leads Goal (k, e) = after-rests (run-is-execution t wf start line of Goal k .0 e)
   run-leads (Failure NotLegal) (k, e) = after-rests (run-is-execution t wf start line of (Failure NotLegal) k .0 e)

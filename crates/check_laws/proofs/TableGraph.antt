@@ -1,32 +1,33 @@
--- The graph of the tables: its nodes are the numbers of pairs, and its edges and failures are their fates.
+-- The graph of the tables: its nodes are the numbers of pairs, and the fates of the pairs give its edges and failures.
 use mathlib.Core.Path.{_≡_, refl, sym, ap, _∙_}
 use mathlib.Core.Bool.{true}
 use Prim.Native.Nat.{ℕ, _+_, _*_, _<_}
 use native.Mathlib.Omega.{arith}
 use Rattle.lamp_line.specs.declared.FailureKind.{FailureKind}
 use Rattle.lamp_line.specs.declared.WorldState.{WorldState}
-use Rattle.lamp_line.specs.Tables.{Tables, WellFormed, worldState, endKinds, lampColumn}
+use Rattle.lamp_line.specs.Tables.{Tables, worldState, endKinds, lampColumn}
+use Rattle.lamp_line.specs.inner.WellFormed.{WellFormed}
 use Rattle.lamp_line.specs.Endings.{kindNumber}
 use Rattle.lamp_line.specs.Run.{Pair, pair, lampWalk}
-use Rattle.run_laws.specs.Pairs.{InRange, pairNumber}
+use Rattle.run_laws.specs.inner.Pairs.{InRange, pairNumber, pairOf}
 use Rattle.run_laws.proofs.Pairs.{pair-number-bound, pair-number-injective}
 use Rattle.run_laws.proofs.Walks.{arrived-in-range}
-use Rattle.search_laws.specs.Graph.{Graph, Plain}
+use Rattle.search_laws.specs.inner.Graph.{Graph, Plain}
 use Rattle.search_laws.proofs.Shortness.{Coded}
-use Rattle.check_laws.specs.Fates.{pairOf, fails, arrives, startNode, fate}
+use Rattle.check_laws.specs.inner.Fates.{fails, arrives, startNode, fate}
 use Rattle.check_laws.proofs.FateLaws.{number-bound, fate-of-pair, arrives-walk, arrived-not-final}
 
--- Here the line's end is one column.
+-- The line's end is a single column.
 pub one-end-kind : (t : Tables) → endKinds t ≡ 1
 unfolding endKinds
 one-end-kind t = refl
 
 module _ (t : Tables) where
-  -- The pair fails at the column with this number of a failure.
+  -- The pair fails at the column, and this is the number of its failure kind.
   abbrev pub FailsAt : ℕ → ℕ → ℕ → Type 0
   FailsAt x column f = (kind : FailureKind) × (fate t x column ≡ fails kind) × (kindNumber kind ≡ f)
 
-  -- The marked starts, what the pairs come to at each kind of lamp, and what they come to at the ends.
+  -- The graph: the marked starts, the fates of the pairs at each kind of lamp, and their failures at the ends.
   abbrev pub graph : Graph
   graph =
       record {
@@ -41,16 +42,16 @@ module _ (t : Tables) where
   fails-once : (x c f f′ : ℕ) → FailsAt x c f → FailsAt x c f′ → f ≡ f′
   fails-once x c f f′ (kind, e, n) (kind′, e′, n′) = let same : kind ≡ kind′ = cc in sym n ∙ ap kindNumber same ∙ n′
 
-  -- A number is that of a pair of the tables.
+  -- The number is that of a pair of the tables.
   abbrev pub PairNumber : ℕ → Type 0
   PairNumber x = (p : Pair) × (x ≡ pairNumber (t .worlds) p) × InRange t p
 
   module _ (wf : WellFormed t) where
-    -- The pair at a marked start is one of the tables.
+    -- The pair at a marked start is a pair of the tables.
     pub start-in-range : (w : WorldState) → t .start w ≡ true → InRange t (pair (t .first) w)
     start-in-range w marked = record { state-range = wf .first-range; world-range = wf .start-range w marked }
 
-    -- Each start has one pair of its own, and each pair one fate.
+    -- Each start has one pair, which no other start has, and each pair has one fate.
     pub plain : Plain graph
     plain =
         record {
@@ -66,7 +67,7 @@ module _ (t : Tables) where
           end-one = λ x e. fails-once x e;
         }
 
-    -- An edge leaves a pair of the tables that is not final, and leads to one of the tables.
+    -- An edge leads from a pair of the tables that is not final to a pair of the tables.
     to-arrives :
         (p : Pair) (c y : ℕ) → InRange t p → fate t (pairNumber (t .worlds) p) (lampColumn t c) ≡ arrives y →
         (p .state .0 < t .states) × PairNumber y
@@ -81,11 +82,11 @@ module _ (t : Tables) where
           ),
         )
 
-    -- The starts begin below (S + 1)·W.
+    -- The starts begin at numbers below (S + 1)·W.
     pub start-bound : (s x : ℕ) → graph .Start s x → x < (t .states + 1) * t .worlds
     start-bound s x (m, e) = rw e (number-bound t (pair (t .first) (worldState s)) (start-in-range (worldState s) m))
 
-    -- The edges lead below (S + 1)·W.
+    -- The edges lead to numbers below (S + 1)·W.
     pub to-bound : (x c y : ℕ) → graph .To x c y → y < (t .states + 1) * t .worlds
     unfolding fate
     to-bound x c y to =
@@ -93,11 +94,11 @@ module _ (t : Tables) where
         let (p′, k, e, n) = arrives-walk (t .worlds) y (lampWalk t p (lampColumn t c)) to in
         rw n (number-bound t p′ (arrived-in-range t wf (t .states * t .worlds) p p′ (lampColumn t c) k (sym e)))
 
-    -- The starts begin with numbers of pairs.
+    -- The starts begin at numbers of pairs of the tables.
     pub start-numbered : (s x : ℕ) → graph .Start s x → PairNumber x
     start-numbered s x (m, e) = (pair (t .first) (worldState s), e, start-in-range (worldState s) m)
 
-    -- The numbers of the pairs that can be left are below S·W.
+    -- The pairs that have edges have numbers below S·W.
     pub coded : Coded graph PairNumber (λ x. x) (t .states * t .worlds)
     coded =
         record {

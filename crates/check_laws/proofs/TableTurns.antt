@@ -1,5 +1,5 @@
--- One turn of the search over the tables of a job, by the fates of pairs. It keeps the invariant of its place, or it answers, and
--- the failure that it met is the counterexample of the check.
+-- One turn of the search over the tables of a job. It keeps the invariant, or it answers with the failure that it met, which is the
+-- counterexample of the check.
 use mathlib.Core.Path.{_≡_, refl, sym, _∙_}
 use mathlib.Core.Logic.{_≢_}
 use mathlib.Core.Bool.{Bool, true, false}
@@ -8,40 +8,41 @@ use Prim.Native.Nat.{ℕ, zero, suc, _+_, _≤_, _<_}
 use native.Mathlib.Omega.{arith}
 use lib.ListN.{length}
 use Rattle.lamp_line.specs.declared.FailureKind.{FailureKind}
-use Rattle.lamp_line.specs.Tables.{Tables, WellFormed, worldState, lampColumn}
+use Rattle.lamp_line.specs.Tables.{Tables, worldState, lampColumn}
+use Rattle.lamp_line.specs.inner.WellFormed.{WellFormed}
 use Rattle.lamp_line.specs.Endings.{kindNumber}
 use Rattle.lamp_line.specs.Check.{Counterexample, Right}
-use Rattle.run_laws.specs.Lines.{lineOf}
-use Rattle.search_laws.specs.Lists.{_▸_}
-use Rattle.search_laws.specs.Graph.{Kind}
-use Rattle.search_laws.specs.Entries.{Entry, entry, node, start, path, grown, onward}
+use Rattle.run_laws.specs.inner.Lines.{lineOf}
+use Rattle.search_laws.specs.inner.Lists.{_▸_}
+use Rattle.search_laws.specs.inner.Graph.{Kind}
+use Rattle.search_laws.specs.inner.Entries.{Entry, entry, node, start, path, grown, onward}
 use Rattle.search_laws.proofs.Turns.{At, turn-quiet, fails-lamp, turn-add, fails-end}
 use Rattle.search_laws.proofs.Begin.{Begun, begin-skip, begin-add, begin-lowest}
-use Rattle.check_laws.specs.Fates.{Fate, succeeds, fails, arrives, AtEnds, good, bad, startNode, fate, atEnds}
-use Rattle.check_laws.specs.Search.{Turn, answers, goes-on, met, visited, visit, atStart, atLamp, firstLabel, labels, tried}
+use Rattle.check_laws.specs.inner.Fates.{NodeFate, succeeds, fails, arrives, AtEnds, good, bad, startNode, fate, atEnds}
+use Rattle.check_laws.specs.inner.Search.{Turn, answers, goes-on, met, visited, visit, atStart, atLamp, firstLabel, labels, tried}
 use Rattle.check_laws.proofs.TableGraph.{one-end-kind, graph, plain}
 use Rattle.check_laws.proofs.RightAnswers.{least-right}
 use Rattle.check_laws.proofs.MetPairs.{met-true, met-false}
 use Rattle.check_laws.proofs.Ends.{GoodAtEnds, BadAtEnd, EndsSay, ends-say}
 
 module _ (t : Tables) where
-  -- What a part of the search owes: a right answer, or a table of which P holds.
+  -- What has to hold for the result of a part of the search: it is a right answer, or a table with the property P.
   abbrev pub Owes : (List Entry → Type 0) → Turn → Type 0
   Owes P (answers v) = Right t v
   Owes P (goes-on E) = P E
 
-  -- What is known before a label of a place is tried: the starts below it are taken, or the entries before the place's were tried
-  -- with all kinds and the place's entry with the lower ones.
+  -- What is known before a label of a place is tried. At place 0, the starts below the label are taken. At place h + 1, the entries
+  -- before h were tried with all kinds, and the entry h with the lower kinds.
   abbrev pub Stage : List Entry → ℕ → ℕ → Type 0
   Stage E zero s = Begun (graph t) E s
   Stage E (suc h) k = At (graph t) E h k
 
-  -- The label behind those of a place.
+  -- The number after the last label of a place.
   abbrev pub labelsEnd : ℕ → ℕ
   labelsEnd zero = t .worlds
   labelsEnd (suc h) = t .kinds + 1
 
-  -- It is that number of labels behind the first.
+  -- It is the first label plus the number of labels.
   pub labels-end : (h : ℕ) → firstLabel h + labels t h ≡ labelsEnd h
   labels-end zero = omega arith
   labels-end (suc h) = omega arith
@@ -50,8 +51,8 @@ module _ (t : Tables) where
   abbrev New : List Entry → ℕ → Type 0
   New E y = (i : ℕ) → i < length E → node E i ≢ y
 
-  -- A line comes to its end with the pair of the entry z: the pair is in the table, or it is new and fails at no end, or it is new
-  -- and fails at an end.
+  -- A line has arrived with the pair of the entry z. The pair is in the table; or it is new and fails at no end; or it is new and
+  -- fails at an end.
   visit-right :
       (P : List Entry → Type 0) (E : List Entry) (z : Entry) →
       ((j : ℕ) → j < length E → node E j ≡ z .node → P E) →
@@ -68,7 +69,7 @@ module _ (t : Tables) where
       go false m (bad end kind) say = failing (met-false E (z .node) m) end kind say
 
   module _ (wf : WellFormed t) where
-    -- A start is not marked, or its pair is visited. That pair is new, since each start has a pair of its own.
+    -- A start is not marked, or its pair is visited. This pair is new, since no other start has it.
     start-right :
         (E : List Entry) (s : ℕ) → Begun (graph t) E s → (b : Bool) → t .start (worldState s) ≡ b →
         Owes (λ E′. Begun (graph t) E′ (s + 1)) (atStart t E s b)
@@ -88,10 +89,10 @@ module _ (t : Tables) where
             let same = plain t wf .start-own (start E j) s (startNode t s) (marked, sym is ∙ own) (e, refl) in
             omega (arith, begun .taken j l)
 
-    -- At a kind of lamp the run from an entry ends with the goal true, or fails, or arrives with a pair, which is visited.
+    -- At a kind of lamp, the run from an entry ends with the goal true, or fails, or arrives with a pair, which is visited.
     lamp-right :
         (E : List Entry) (h k : ℕ) → At (graph t) E h k → Kind (t .kinds) k →
-        (v : Fate) → fate t (node E h) (lampColumn t k) ≡ v → Owes (λ E′. At (graph t) E′ h (k + 1)) (atLamp t E h k v)
+        (v : NodeFate) → fate t (node E h) (lampColumn t k) ≡ v → Owes (λ E′. At (graph t) E′ h (k + 1)) (atLamp t E h k v)
     unfolding Right
     lamp-right E h k at kind succeeds e =
         turn-quiet (graph t) E h k at (λ f (x, g, n). let z : _≡_ {A = ℕ} 0 1 = cc in omega arith)
@@ -110,7 +111,7 @@ module _ (t : Tables) where
         (fails-end (graph t) E h k at (plain t wf) kind y new e end (kindNumber x) (bad .is-end) (x, bad .fate-is, refl)
         (bad .lowest)))
 
-    -- One turn, at any place: one label is tried.
+    -- One turn at any place: one label is tried.
     pub tried-right :
         (E : List Entry) (h k : ℕ) → Stage E h k → firstLabel h ≤ k → k < labelsEnd h →
         Owes (λ E′. Stage E′ h (k + 1)) (tried t E h k)

@@ -1,4 +1,4 @@
--- The answer that the search function gives is right: its loops keep the invariant of the search, by the law of its turns.
+-- The answer of the search function is right: its loops keep the invariant of the search, by the law for one turn.
 use mathlib.Core.Path.{_≡_, refl, subst}
 use mathlib.Core.List.{List, []}
 use Prim.Native.Nat.{ℕ, zero, suc, _+_, _*_, _≤_, _<_}
@@ -9,22 +9,23 @@ use borrow.Author.Tests.{le-leb, lt-leb}
 use lib.ListN.{length}
 use Rattle.lamp_line.specs.declared.WorldState.{WorldState}
 use Rattle.lamp_line.specs.declared.FailureKind.{FailureKind}
-use Rattle.lamp_line.specs.Tables.{Tables, WellFormed, Line, worldState}
+use Rattle.lamp_line.specs.Tables.{Tables, Line, worldState}
+use Rattle.lamp_line.specs.inner.WellFormed.{WellFormed}
 use Rattle.lamp_line.specs.Check.{failed, Counterexample, Right}
 use Rattle.search_laws.proofs.Graph.{reach-below}
-use Rattle.search_laws.specs.Entries.{Entry}
+use Rattle.search_laws.specs.inner.Entries.{Entry}
 use Rattle.search_laws.proofs.Room.{entries-fit}
 use Rattle.search_laws.proofs.Turns.{At, turn-next}
 use Rattle.search_laws.proofs.Begin.{Begun, begin-empty, begin-done}
-use Rattle.check_laws.specs.Fates.{startNode}
-use Rattle.check_laws.specs.Search.{Turn, answers, goes-on, andThen, conclusion, firstLabel, labels, tried}
-use Rattle.check_laws.specs.Search.{labelsFrom, placesFrom, verdictOf}
+use Rattle.check_laws.specs.inner.Fates.{startNode}
+use Rattle.check_laws.specs.inner.Search.{Turn, answers, goes-on, andThen, conclusion, firstLabel, labels, tried}
+use Rattle.check_laws.specs.inner.Search.{labelsFrom, placesFrom, verdictOf}
 use Rattle.check_laws.proofs.TableGraph.{graph, start-bound, to-bound}
 use Rattle.check_laws.proofs.RightAnswers.{table-right}
 use Rattle.check_laws.proofs.TableTurns.{Owes, Stage, labelsEnd, labels-end, tried-right}
 
 module _ (t : Tables) where
-  -- A part of the search, and then the next.
+  -- A part of the search, followed by the next.
   and-then :
       (P Q : List Entry → Type 0) (r : Turn) (f : List Entry → Turn) →
       Owes t P r → ((E : List Entry) → P E → Owes t Q (f E)) → Owes t Q (andThen r f)
@@ -35,10 +36,10 @@ module _ (t : Tables) where
   abbrev Through : List Entry → Type 0
   Through E = (i : ℕ) × At (graph t) E i (t .kinds + 1) × (length E ≤ i + 1)
 
-  -- The loop over the places stands at the place h, or behind the last.
+  -- The loop over the places is at the place h, or has passed the last one.
   data Stands (E : List Entry) (h : ℕ) : Type 0 where
     at-place : Stage t E h (firstLabel h) → Stands E h
-    behind-last : Through E → length E < h → Stands E h
+    after-last : Through E → length E < h → Stands E h
 
   module _ (wf : WellFormed t) where
     -- ---- one place
@@ -69,7 +70,7 @@ module _ (t : Tables) where
       where
         go : Dec (i + 1 < length E) → Stands E (suc (suc i))
         go (yes l) = at-place (rw add-one at (turn-next (graph t) E i at l))
-        go (no l) = behind-last (i, at, omega arith) (omega arith)
+        go (no l) = after-last (i, at, omega arith) (omega arith)
 
     -- ---- the places
 
@@ -89,16 +90,16 @@ module _ (t : Tables) where
         Owes t Through (placesFrom t n E h)
     unfolding placesFrom
     places-right zero E h (at-place stage) fuel = absurd (omega (arith, place-bound E h (firstLabel h) stage .1))
-    places-right zero E h (behind-last through end) fuel = through
+    places-right zero E h (after-last through end) fuel = through
     places-right (suc n) E h (at-place stage) fuel =
         rw (le-leb h (length E) (place-bound E h (firstLabel h) stage .0), Owes)
         (and-then (λ E′. Stage t E′ h (labelsEnd t h)) Through
         (labelsFrom t (labels t h) E h (firstLabel h)) (λ E′. placesFrom t n E′ (h + 1))
         (labels-right (labels t h) E h (firstLabel h) stage (omega arith) (labels-end t h))
         (λ E′ stage′. places-right n E′ (h + 1) (rw add-one (next-place E′ h stage′)) (omega arith)))
-    places-right (suc n) E h (behind-last through end) fuel = rw (lt-leb h (length E) end, Owes) through
+    places-right (suc n) E h (after-last through end) fuel = rw (lt-leb h (length E) end, Owes) through
 
-    -- Where all entries were tried, the conclusion is right.
+    -- If all entries were tried, the conclusion is right.
     conclusion-right : (r : Turn) → Owes t Through r → Right t (conclusion r)
     unfolding Right
     conclusion-right (answers v) h = h
@@ -114,7 +115,7 @@ module _ (t : Tables) where
     -- ---- a failing answer
 
     module _ {kind : FailureKind} {s : WorldState} {line : Line} (e : verdictOf t ≡ failed kind s line) where
-      -- It is the counterexample.
+      -- The answer is the counterexample.
       counterexample : Counterexample t kind s line
       unfolding Right
       counterexample = subst (Right t) e verdict-right
@@ -125,4 +126,4 @@ module _ (t : Tables) where
 
       -- Its start is a world state of the tables.
       pub failing-start : s .0 < t .worlds
-      failing-start = wf .start-range s (counterexample .fails .marked)
+      failing-start = wf .start-range s (counterexample .fails .beginning .marked)

@@ -1,1 +1,1 @@
-// Laws of the check: its answer as a function of the tables, and that there is one right answer. There is no code here.
+// Laws of the check: its answer as a function of the tables is right, and there is only one right answer. There is no code here.

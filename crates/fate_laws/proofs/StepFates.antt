@@ -1,5 +1,5 @@
--- The fate of a pair by what some of its actions come to: an ending or an arrival is the fate, a pair at which they stay has the
--- same fate, and a pair that is met twice is one of a circle.
+-- The fate of a pair from the result of some of its actions: an ending or an arrival is its fate, a pair with which they stay at
+-- the lamp has the same fate, and a pair that is met twice circles.
 use mathlib.Core.Path.{_≡_, refl, sym, ap, _∙_}
 use Prim.Native.Nat.{ℕ, zero, suc, _+_, _-_, _*_, _≤_, _<_}
 use native.Mathlib.Nat.{suc-mul, zero-mul, add-comm, mul-le-mul-left}
@@ -7,56 +7,57 @@ use native.Mathlib.Omega.{arith}
 use Rattle.lamp_line.specs.declared.FailureKind.the-variants.{Circles}
 use Rattle.lamp_line.specs.declared.Ending.{Ending}
 use Rattle.lamp_line.specs.declared.Ending.the-variants.{Failure}
-use Rattle.lamp_line.specs.Tables.{Tables, WellFormed}
+use Rattle.lamp_line.specs.Tables.{Tables}
+use Rattle.lamp_line.specs.inner.WellFormed.{WellFormed}
 use Rattle.lamp_line.specs.Run.{Pair, Move, ends, stays, passes, ended, arrived, lampWalk}
-use Rattle.run_laws.specs.Pairs.{InRange}
-use Rattle.fate_laws.specs.Fates.{uncounted}
-use Rattle.fate_laws.specs.Stretches.{next, far}
-use Rattle.fate_laws.proofs.Fates.{settled, far-fate}
-use Rattle.fate_laws.proofs.Stretches.{far-joined, stays-within}
+use Rattle.run_laws.specs.inner.Pairs.{InRange}
+use Rattle.fate_laws.specs.inner.Fates.{uncounted}
+use Rattle.fate_laws.specs.inner.Stretches.{next, stretch}
+use Rattle.fate_laws.proofs.Fates.{settled, stretch-fate}
+use Rattle.fate_laws.proofs.Stretches.{stretch-joined, stays-within}
 
 module _ (t : Tables) (wf : WellFormed t) (c : ℕ) where
   most : ℕ
   most = t .states * t .worlds
 
-  -- The fate of a pair, from what n of its actions come to.
+  -- The fate of a pair, from the result of n of its actions.
   fate-after :
-      (n : ℕ) (p : Pair) (m : Move) → InRange t p → far t c n p ≡ m →
-      uncounted (lampWalk t p c) ≡ settled (next m (λ p′. far t c (suc most) p′))
+      (n : ℕ) (p : Pair) (m : Move) → InRange t p → stretch t c n p ≡ m →
+      uncounted (lampWalk t p c) ≡ settled (next m (λ p′. stretch t c (suc most) p′))
   unfolding most
   fate-after n p m range e =
-      sym (far-fate t wf c p range (n + suc most) (omega arith)) ∙ ap settled (far-joined t c n (suc most) p m e)
+      sym (stretch-fate t wf c p range (n + suc most) (omega arith)) ∙ ap settled (stretch-joined t c n (suc most) p m e)
 
-  -- Where its actions end the run, that is its fate.
-  pub ends-fate : (n : ℕ) (p : Pair) (x : Ending) → InRange t p → far t c n p ≡ ends x → uncounted (lampWalk t p c) ≡ ended x 0
+  -- If its actions end the run, this ending is its fate.
+  pub ends-fate : (n : ℕ) (p : Pair) (x : Ending) → InRange t p → stretch t c n p ≡ ends x → uncounted (lampWalk t p c) ≡ ended x 0
   ends-fate n p x = fate-after n p (ends x)
 
-  -- Where they pass the lamp, the pair with which they pass it is its fate.
-  pub passes-fate : (n : ℕ) (p p′ : Pair) → InRange t p → far t c n p ≡ passes p′ → uncounted (lampWalk t p c) ≡ arrived p′ 0
+  -- If they pass the lamp, its fate is the arrival with that pair.
+  pub passes-fate : (n : ℕ) (p p′ : Pair) → InRange t p → stretch t c n p ≡ passes p′ → uncounted (lampWalk t p c) ≡ arrived p′ 0
   passes-fate n p p′ = fate-after n p (passes p′)
 
-  -- Where they stay at the lamp, its fate is that of the pair with which they stay.
+  -- If they stay at the lamp, its fate is that of the pair with which they stay.
   pub stays-fate :
-      (n : ℕ) (p p′ : Pair) → InRange t p → far t c n p ≡ stays p′ → uncounted (lampWalk t p c) ≡ uncounted (lampWalk t p′ c)
+      (n : ℕ) (p p′ : Pair) → InRange t p → stretch t c n p ≡ stays p′ → uncounted (lampWalk t p c) ≡ uncounted (lampWalk t p′ c)
   unfolding most
   stays-fate n p p′ range e =
-      fate-after n p (stays p′) range e ∙ far-fate t wf c p′ (stays-within t wf c n p p′ range e) (suc most) (omega arith)
+      fate-after n p (stays p′) range e ∙ stretch-fate t wf c p′ (stays-within t wf c n p p′ range e) (suc most) (omega arith)
 
-  -- Round after round the actions still stay.
-  rounds : (n : ℕ) (p : Pair) → far t c n p ≡ stays p → (k : ℕ) → far t c (k * n) p ≡ stays p
-  rounds n p e zero = rw (zero-mul n) (unfold far in refl)
-  rounds n p e (suc k) = rw (suc-mul k n, add-comm (k * n) n) (far-joined t c n (k * n) p (stays p) e ∙ rounds n p e k)
+  -- If n actions lead back to the pair, so does every multiple of n actions.
+  rounds : (n : ℕ) (p : Pair) → stretch t c n p ≡ stays p → (k : ℕ) → stretch t c (k * n) p ≡ stays p
+  rounds n p e zero = rw (zero-mul n) (unfold stretch in refl)
+  rounds n p e (suc k) = rw (suc-mul k n, add-comm (k * n) n) (stretch-joined t c n (k * n) p (stays p) e ∙ rounds n p e k)
 
-  -- Where they come to a pair a second time, they circle.
+  -- If they meet a pair a second time, they circle.
   pub circle-fate :
-      (i k : ℕ) (p p′ : Pair) → InRange t p → i < k → far t c i p ≡ stays p′ → far t c k p ≡ stays p′ →
+      (i k : ℕ) (p p′ : Pair) → InRange t p → i < k → stretch t c i p ≡ stays p′ → stretch t c k p ≡ stays p′ →
       uncounted (lampWalk t p c) ≡ ended (Failure Circles) 0
   unfolding most
   circle-fate i k p p′ range i<k e f =
       let n = k - i in
       let all : i + n ≡ k = omega arith in
-      let round : far t c n p′ ≡ stays p′ = sym (rw all at (far-joined t c i n p (stays p′) e)) ∙ f in
+      let round : stretch t c n p′ ≡ stays p′ = sym (rw all at (stretch-joined t c i n p (stays p′) e)) ∙ f in
       let long : suc most * 1 ≤ suc most * n = mul-le-mul-left (suc most) (omega arith) in
       stays-fate i p p′ range e
-      ∙ sym (far-fate t wf c p′ (stays-within t wf c i p p′ range e) (suc most * n) (omega arith))
+      ∙ sym (stretch-fate t wf c p′ (stays-within t wf c i p p′ range e) (suc most * n) (omega arith))
       ∙ ap settled (rounds n p′ round (suc most))

@@ -1,1 +1,2 @@
-// The laws behind the memory of fates, in proofs/: stretches of actions at one column, and what they say of the one-lamp walk.
+// Laws for the memory of fates: stretches of actions at one column, and what they say about the one-lamp walk. There is no code
+// here.

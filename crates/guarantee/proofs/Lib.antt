@@ -1,4 +1,6 @@
-pub mod Bench
-pub mod CallsFollow
+pub mod CabinetServed
 pub mod CheckDecides
-pub mod DemandThree
+pub mod CheckMeans
+pub mod RunsAfterCheck
+pub mod RunsDecide
+pub mod Unrefused

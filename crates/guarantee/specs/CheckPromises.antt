@@ -1,45 +1,76 @@
--- What is promised of the check, beyond what its contract says of one call (mission, demand 3; document 01, "The check").
+-- Demand 3 of the mission for the check (01, "The check"): what its answers mean, beyond what its contract says of each call.
 use mathlib.Core.Path.{_≡_}
 use mathlib.Core.Logic.{_↔_}
 use mathlib.Core.Option.{none}
 use mathlib.Core.List.{List}
-use Prim.Native.Nat.{ℕ}
-use lib.ListN.{length}
+use Prim.Native.Nat.{ℕ, _≤_}
+use lib.ListN.{length, take}
 use Rattle.plans.specs.Execution.{Correct}
 use Rattle.lamp_line.specs.declared.WorldState.{WorldState}
 use Rattle.lamp_line.specs.declared.FailureKind.{FailureKind}
-use Rattle.lamp_line.specs.declared.Ending.the-variants.{Goal}
-use Rattle.lamp_line.specs.Tables.{Tables, Line, lampProblem, planOf}
-use Rattle.lamp_line.specs.Refusals.{refusal}
+use Rattle.lamp_line.specs.declared.Ending.{Ending}
+use Rattle.lamp_line.specs.declared.Ending.the-variants.{Goal, Failure}
+use Rattle.lamp_line.specs.Tables.{Line, lampLine, Beginning, lampProblem, planOf}
 use Rattle.lamp_line.specs.Endings.{Leads}
 use Rattle.lamp_line.specs.Check.{situation, Fails}
-use Rattle.lamp_line.specs.Promises.{Run-of}
+use Rattle.job_layout.specs.declared.Job.{Job}
 use Rattle.job_layout.specs.JobTables.{tablesOf}
-use Rattle.job_file.specs.Operations.{checkRules}
+use Rattle.job_file.specs.Reading.{Opened}
+use Rattle.line_run.specs.declared.RunAnswer.the-variants as run
+use Rattle.line_run.specs.RunAnswers.{runAnswer}
+use Rattle.plan_check.specs.declared.Failure.{Failure as FailedAnswer}
 use Rattle.plan_check.specs.declared.CheckAnswer.{CheckAnswer}
 use Rattle.plan_check.specs.declared.CheckAnswer.the-variants as answer
-use Rattle.plan_check.specs.CheckAnswers.{Lent, Checked}
+use Rattle.plan_check.specs.CheckAnswers.{Lent, checkRefusal, Checked}
 
--- A check that is not refused accepts exactly when the plan is correct: from every marked start, on every line of every length.
+-- ---- exactly when
+
+-- Unless it is refused, a check accepts exactly when the plan is correct in the sense of 001: it reaches the goal from all marked starts,
+-- on all lines, however long.
 abbrev pub AcceptedExactly : Type 0
 AcceptedExactly =
     (s : List ℕ) (r : CheckAnswer) (before after : Lent) →
-    refusal (checkRules s (length (before .line)) (length (before .list)) (length (before .words))) ≡ none →
-    Checked s r before after →
+    checkRefusal s before ≡ none → Checked s r before after →
     ((count : ℕ) × (r ≡ answer.Accepted count)) ↔ Correct (lampProblem (tablesOf s)) (planOf (tablesOf s))
 
--- A line fails, with one of failures 1 to 4, exactly when its execution does not end in state S with the goal true.
-abbrev pub FailsExactly : Tables → Type 0
-FailsExactly t =
-    (start : WorldState) (line : Line) → Run-of t start line →
-    ((kind : FailureKind) × Fails t kind start line) ↔ ¬ (Leads (lampProblem t) (planOf t) Goal (t .first) (situation start line))
+-- A line has one of the four failure kinds from a start exactly when the execution there does not reach state S with a true goal.
+abbrev pub FailsExactly : Type 0
+FailsExactly =
+    (s : List ℕ) (j : Job) → Opened s j → (start : WorldState) (line : Line) → Beginning (tablesOf s) start line →
+    ((kind : FailureKind) × Fails (tablesOf s) kind start line)
+    ↔ ¬ (Leads (lampProblem (tablesOf s)) (planOf (tablesOf s)) Goal (tablesOf s .first) (situation start line))
 
--- What is handed in determines the answer and every byte of the line buffer.
+-- ---- determined
+
+-- The same answer, and the same bytes in the line buffer.
 pub record SameChecks (r r′ : CheckAnswer) (after after′ : Lent) : Type 0 where
   pub same-answer : r ≡ r′
   pub same-line : after .line ≡ after′ .line
 
+-- Two checks that are handed the same give the same answer and leave the same line buffer.
 abbrev pub CheckDetermined : Type 0
 CheckDetermined =
     (s : List ℕ) (r r′ : CheckAnswer) (before after after′ : Lent) →
     Checked s r before after → Checked s r′ before after′ → SameChecks r r′ after after′
+
+-- ---- runs after a check
+
+-- The run along these lamps from the start has this ending. Its number of steps fits in 32 bits, and every limit that is not lower gives
+-- this answer.
+pub record RunEnds (s : List ℕ) (start : WorldState) (lamps : List ℕ) (x : Ending) : Type 0 where
+  pub steps : ℕ
+  pub few : steps ≤ 4294967295
+  pub ends : (limit : ℕ) → steps ≤ limit → runAnswer s start lamps limit ≡ run.Ended x steps
+
+-- If the check accepts, every run from a marked start along at most 65,535 lamps of the job ends in Goal.
+abbrev pub AcceptedRuns : Type 0
+AcceptedRuns =
+    (s : List ℕ) (count : ℕ) (before after : Lent) → Checked s (answer.Accepted count) before after →
+    (start : WorldState) (lamps : List ℕ) → Beginning (tablesOf s) start (lampLine lamps) → length lamps ≤ 65535 →
+    RunEnds s start lamps Goal
+
+-- If the check answers a failure, the run along the line that it wrote, from the start that it answered, ends in that failure.
+abbrev pub FailedRuns : Type 0
+FailedRuns =
+    (s : List ℕ) (f : FailedAnswer) (before after : Lent) → Checked s (answer.Failed f) before after →
+    RunEnds s (f .start) (take (f .lamps) (after .line)) (Failure (f .kind))

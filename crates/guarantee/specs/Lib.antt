@@ -1,2 +1,3 @@
-pub mod CallsOnFiles
+pub mod CabinetPromises
 pub mod CheckPromises
+pub mod RunPromises

@@ -1,1 +1,1 @@
-// What the operations guarantee together: demand 3 over a whole list of calls, and the runs of accepted and failed plans. Theorems only.
+// What the operations guarantee together: demand 2 for the run, and demand 3 for the check and the cabinet. The crate has theorems only.

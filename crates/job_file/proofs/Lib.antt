@@ -1,4 +1,3 @@
-pub mod BenchReading
 pub mod NoneApplies
 pub mod Opening
 pub mod ReadingLaws

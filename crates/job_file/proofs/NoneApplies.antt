@@ -1,5 +1,5 @@
--- Where the reader answers a job, it is the file's head, and none of the eleven rules applies.
-use mathlib.Core.Path.{_≡_, refl, sym, ap, _∙_, subst}
+-- A job that the reader answers is the file's head, and none of the eleven rules applies to the file.
+use mathlib.Core.Path.{_≡_, refl, sym, subst}
 use mathlib.Core.Bool.{Bool, true, false}
 use mathlib.Core.Option.{Option, none, some}
 use mathlib.Core.List.{List, [], _∷_}
@@ -8,16 +8,16 @@ use native.Mathlib.Omega.{arith}
 use Rattle.lamp_line.specs.Refusals.{Rule, _when_, refusal, orRefused, answerBy}
 use Rattle.job_layout.specs.declared.Job.{Job}
 use Rattle.job_layout.specs.Layout.{head}
-use Rattle.job_rules.specs.Rules.{sizeWrong, numberWrong, pairWrong, lengthWrong, markWrong, cellWrong, endWrong, startWrong, goalWrong, actionWrong, targetWrong}
-use Rattle.job_file.specs.declared.Reading.{Reading}
+use Rattle.job_rules.specs.Rules.{sizeWrong, numberWrong, placeWrong, lengthWrong, markWrong, cellWrong, endWrong, startWrong, goalWrong, actionWrong, targetWrong}
 use Rattle.job_file.specs.declared.Reading.the-variants as reading
 use Rattle.job_file.specs.Reading.{rules, fileRules, readingOf, Opened}
 
+-- The job j is the head of the file s, and none of rules 1 to 11 applies to the file.
 pub record NoneApplies (s : List ℕ) (j : Job) : Type 0 where
   pub is-head : j ≡ head s
   pub size : sizeWrong s ≡ false
   pub numbers : numberWrong s j ≡ false
-  pub pairs : pairWrong s j ≡ false
+  pub places : placeWrong s j ≡ false
   pub lengths : lengthWrong j ≡ false
   pub marks : markWrong s j ≡ false
   pub cells : cellWrong s j ≡ false
@@ -31,7 +31,7 @@ answered : (o : Option ℕ) (h j : Job) → orRefused reading.Refused o (reading
 answered none h j e = (refl, cc)
 answered (some number) h j e = absurd (let z : _≡_ {A = ℕ} 0 1 = cc in omega arith)
 
--- A list of rules none of which applies: the first does not, and none of the others does.
+-- If no rule of a list applies, the first does not, and none of the others does.
 past : (number : ℕ) (applies : Bool) (more : List Rule) → refusal ((number when applies) ∷ more) ≡ none →
     (applies ≡ false) × (refusal more ≡ none)
 unfolding refusal
@@ -55,7 +55,7 @@ none-of s j is-head e =
       is-head = is-head;
       size = r₁ .0;
       numbers = r₂ .0;
-      pairs = r₃ .0;
+      places = r₃ .0;
       lengths = r₄ .0;
       marks = r₅ .0;
       cells = r₆ .0;
@@ -66,6 +66,7 @@ none-of s j is-head e =
       targets = r₁₁ .0;
     }
 
+-- This holds if the reader answers j.
 pub none-applies : (s : List ℕ) (j : Job) → Opened s j → NoneApplies s j
 unfolding readingOf answerBy
 none-applies s j opened =

@@ -1,25 +1,35 @@
--- What the reader's answer says of any operation on the file: a refused file is refused by it with the same number, and with a file
--- that is not refused its own rules decide.
+-- What the reader's answer means for any operation on the file: if the reader refuses, the operation refuses with the same number;
+-- if not, the operation's own rules decide.
 use mathlib.Core.Path.{_≡_, refl, sym, ap, _∙_}
 use mathlib.Core.Option.{Option, none, some}
 use mathlib.Core.List.{List, _++_}
 use Prim.Native.Nat.{ℕ}
 use native.Mathlib.Omega.{arith}
 use Rattle.lamp_line.specs.Refusals.{Rule, refusal, orRefused, answerBy}
-use Rattle.lamp_line.proofs.Answering.{by-rules-before}
+use Rattle.lamp_line.proofs.Answering.{none-of-both, by-rules-before}
 use Rattle.job_layout.specs.declared.Job.{Job}
 use Rattle.job_layout.specs.Layout.{head}
 use Rattle.job_file.specs.declared.Reading.{Reading}
 use Rattle.job_file.specs.declared.Reading.the-variants as reading
-use Rattle.job_file.specs.Reading.{fileRules, readingOf, refusalOf, Opened}
+use Rattle.job_file.specs.Reading.{fileRules, readingOf, Opened}
+use Rattle.job_file.specs.inner.ReaderSteps.{refusalOf}
 
--- The number that is taken out of the reader's refusal is the one that it refuses with.
+-- The job that is taken out of the reader's answer is the one that it answers.
+pub opened-by : (s : List ℕ) {x : Reading} {j : Job} → x ≡ readingOf s → x ≡ reading.Job j → Opened s j
+opened-by s read told = sym read ∙ told
+
+-- The number that the code takes from the reader's answer is that of its refusal.
 pub reading-refused : (s : List ℕ) (x : Reading) (n number : ℕ) →
     x ≡ readingOf s → x ≡ reading.Refused n → number ≡ refusalOf x → readingOf s ≡ reading.Refused number
 reading-refused s x n number read told taken-out = sym read ∙ told ∙ ap reading.Refused (sym (taken-out ∙ ap refusalOf told))
 
+-- Where no rule of an operation applies, the file is not refused.
+pub opened-unrefused : (s : List ℕ) (more : List Rule) → refusal (fileRules s ++ more) ≡ none → Opened s (head s)
+unfolding readingOf answerBy
+opened-unrefused s more e = rw (none-of-both (fileRules s) more e .0)
+
 module _ {A : Type 0} (refused : ℕ → A) (s : List ℕ) (more : List Rule) (answer : A) where
-  -- A refused file.
+  -- The reader refuses the file.
   pub file-refused : (number : ℕ) → readingOf s ≡ reading.Refused number → refused number ≡ answerBy refused (fileRules s ++ more) answer
   unfolding readingOf answerBy
   file-refused number e =
@@ -30,7 +40,7 @@ module _ {A : Type 0} (refused : ℕ → A) (s : List ℕ) (more : List Rule) (a
       by none e = absurd (let z : _≡_ {A = ℕ} 0 1 = cc in omega arith)
       by (some n) e = let same : n ≡ number = cc in ap refused (sym same)
 
-  -- A file that is not refused.
+  -- The reader does not refuse the file.
   pub file-opened : (j : Job) → Opened s j → answerBy refused (fileRules s ++ more) answer ≡ answerBy refused more answer
   unfolding readingOf answerBy
   file-opened j e = by-rules-before refused (fileRules s) more answer ∙ by (refusal (fileRules s)) e

@@ -1,8 +1,8 @@
--- The one law on what is known of a file that is not refused: its head is laid out as it must be, and its tables are well formed.
+-- A file that is not refused is laid out as it must be, and its tables are well formed: the law `sound`, for all crates above.
 use mathlib.Core.Path.{_≡_, refl, sym, ap, _∙_, subst}
-use mathlib.Core.Logic.{_⊎_, inl, inr}
-use mathlib.Core.Bool.{Bool, true, false, cond, _&&_, _||_, not}
-use mathlib.Core.Option.{Option, none, some}
+use mathlib.Core.Logic.{inl, inr}
+use mathlib.Core.Bool.{Bool, true, false, cond, _&&_, _||_, not, and-eq-true-iff}
+use mathlib.Core.Option.{none, some}
 use mathlib.Core.List.{List, [], _∷_}
 use Prim.Native.Nat.{ℕ, _+_, _*_, _≤_, _<_}
 use native.Mathlib.Omega.{arith}
@@ -14,13 +14,14 @@ use Rattle.plans.specs.Plan.{Action, Result}
 use Rattle.lamp_line.specs.declared.ProgramState.{ProgramState}
 use Rattle.lamp_line.specs.declared.WorldState.{WorldState}
 use Rattle.lamp_line.specs.Lists.{_∈_}
-use Rattle.lamp_line.specs.Tables.{Outcome, outcome, Tables, WellFormed, programState, worldState, movesOn, columns, endKinds}
+use Rattle.lamp_line.specs.Tables.{Outcome, outcome, worldState, movesOn, columns, endKinds}
+use Rattle.lamp_line.specs.inner.WellFormed.{WellFormed}
 use Rattle.lamp_line.specs.Refusals.{some-below}
 use Rattle.lamp_line.proofs.Scan.{none-at, some-at}
 use Rattle.job_layout.specs.declared.Job.{Job}
-use Rattle.job_layout.specs.Layout.{byte, head, markPlace, nextPlace, resultPlace, startPlace, actionPlace, targetPlace}
-use Rattle.job_layout.specs.JobTables.{outcomes, branch, tablesBy, tablesOf}
-use Rattle.job_layout.specs.Laid.{Laid}
+use Rattle.job_layout.specs.Layout.{byte, head, markPlace, nextPlace, resultPlace, actionPlace, targetPlace}
+use Rattle.job_layout.specs.JobTables.{outcomes, tablesBy, tablesOf}
+use Rattle.job_layout.specs.inner.Laid.{Laid}
 use Rattle.job_rules.specs.Rules.{notBit, isSet, cellWrongIn, cellWrongAt, legalAtEnd, movesOnAtEnd, actionWrongAt, targetWrongAt, rowWrong}
 use Rattle.job_rules.proofs.HeadLaws.{neither, laid}
 use Rattle.job_file.specs.Reading.{Opened}
@@ -28,24 +29,24 @@ use Rattle.job_file.proofs.NoneApplies.{NoneApplies, none-applies}
 
 -- ---- truth values
 
--- A conjunction that is true is true on both sides.
-both : (a b : Bool) → (a && b) ≡ true → (a ≡ true) × (b ≡ true)
-both true b e = (refl, e)
-both false b e = let z : false ≡ true = e in (z, cc)
+-- What holds of each side of a choice, where that side is taken, holds of the choice.
+choice : {A : Type 0} (P : A → Type 0) (b : Bool) {x y : A} → (b ≡ true → P x) → (b ≡ false → P y) → P (cond b x y)
+choice P true t f = t refl
+choice P false t f = f refl
 
--- A conjunction that is false, with its first side true.
+-- If a conjunction is false and its first side is true, its second side is false.
 second : (a b : Bool) → (a && b) ≡ false → a ≡ true → b ≡ false
 second true b e t = e
 second false b e t = cc
 
--- A conjunction with a negation that is false, and what is negated does not hold.
+-- If "a and not b" is false, and b is too, then a is false.
 unless : (a b : Bool) → (a && not b) ≡ false → b ≡ false → a ≡ false
 unless true b e f = sym (ap not f) ∙ e
 unless false b e f = refl
 
--- ---- what a cell, a mark and a row of an accepted file hold
+-- ---- what a cell, a mark and a row hold in a file that is not refused
 
--- A cell that is not wrong: its next world state is one of the world states, and a result that is not 255 is one of the results.
+-- A cell that is not wrong: its next world state is below W, and its result is below R if it is not 255.
 cell-next : (worlds results next result : ℕ) → cellWrongIn worlds results next result ≡ false → next < worlds
 cell-next worlds results next result e = leb-false _ _ (neither _ _ (neither _ _ e .0) .0)
 
@@ -55,6 +56,13 @@ cell-result worlds results next result e legal =
     let tests = neither (leb worlds next || leb results result && not (eqb result 255)) _ e in
     leb-false _ _ (unless (leb results result) (eqb result 255) (neither (leb worlds next) _ (tests .0) .1) legal)
 
+-- A cell has at most one outcome.
+at-most-one : (next result : ℕ) → length (outcomes next result) ≤ 1
+at-most-one next result =
+    choice (λ (l : List Outcome). length l ≤ 1) (eqb result 255) {x = []} {y = outcome (worldState next) result ∷ []}
+    (λ e. omega arith) (λ e. omega arith)
+
+-- A member of a list of one is that one.
 only : (x y : Outcome) → x ∈ (y ∷ []) → x ≡ y
 unfolding _∈_
 only x y (inl e) = e
@@ -73,30 +81,23 @@ module _ (s : List ℕ) (j : Job) where
   legal-cell : (a : Action) (w w′ : WorldState) (c : ℕ) (r : Result) → outcome w′ r ∈ tablesBy s j .cell a w c →
       LegalCell s j a w c w′ r
   unfolding _∈_
-  legal-cell a w w′ c r = in-range (ltb a (j .actions) && ltb (w .0) (j .worlds) && ltb c (columns (j .kinds))) refl
-    where
-      is-legal : (b : Bool) → eqb (byte s (resultPlace j a w c)) 255 ≡ b →
-          ltb a (j .actions) && ltb (w .0) (j .worlds) && ltb c (columns (j .kinds)) ≡ true →
-          outcome w′ r ∈ cond b [] (outcome (worldState (byte s (nextPlace j a w c))) (byte s (resultPlace j a w c)) ∷ []) →
-          LegalCell s j a w c w′ r
-      is-legal true e t m = absurd m
-      is-legal false e t m =
-          let is = only _ _ m in
-          let tests = both _ _ t in
-          let two = both _ _ (tests .0) in
-          record {
-            action-in = ltb-true _ _ (two .0);
-            world-in = ltb-true _ _ (two .1);
-            column-in = ltb-true _ _ (tests .1);
-            legal = e;
-            next = cc;
-            result = cc;
-          }
-
-      in-range : (b : Bool) → ltb a (j .actions) && ltb (w .0) (j .worlds) && ltb c (columns (j .kinds)) ≡ b →
-          outcome w′ r ∈ cond b (outcomes (byte s (nextPlace j a w c)) (byte s (resultPlace j a w c))) [] → LegalCell s j a w c w′ r
-      in-range true e m = is-legal (eqb (byte s (resultPlace j a w c)) 255) refl e m
-      in-range false e m = absurd m
+  legal-cell a w w′ c r =
+      choice (λ l. outcome w′ r ∈ l → LegalCell s j a w c w′ r)
+      (ltb a (j .actions) && ltb (w .0) (j .worlds) && ltb c (columns (j .kinds)))
+      (λ inside. choice (λ l. outcome w′ r ∈ l → LegalCell s j a w c w′ r) (eqb (byte s (resultPlace j a w c)) 255)
+      (λ e m. absurd m)
+      (λ e m. let is = only _ _ m in
+      let tests = and-eq-true-iff _ _ .0 inside in
+      let two = and-eq-true-iff _ _ .0 (tests .0) in
+      record {
+        action-in = ltb-true _ _ (two .0);
+        world-in = ltb-true _ _ (two .1);
+        column-in = ltb-true _ _ (tests .1);
+        legal = e;
+        next = cc;
+        result = cc;
+      }))
+      (λ e m. absurd m)
 
   module _ (none-applies : NoneApplies s j) (laid : Laid s j) where
     mark-bit : (a : Action) → a < j .actions → byte s (markPlace j a) ≤ 1
@@ -127,23 +128,14 @@ module _ (s : List ℕ) (j : Job) where
     -- ---- the fields of WellFormed
 
     mark-range : (a : Action) → tablesBy s j .mark a ≤ 1
-    mark-range a = by (ltb a (j .actions)) refl
-      where
-        by : (b : Bool) → ltb a (j .actions) ≡ b → cond b (byte s (markPlace j a)) 0 ≤ 1
-        by true e = mark-bit a (ltb-true _ _ e)
-        by false e = omega arith
+    mark-range a = choice (λ n. n ≤ 1) (ltb a (j .actions)) (λ e. mark-bit a (ltb-true _ _ e)) (λ e. omega arith)
 
     single : (a : Action) (w : WorldState) (c : ℕ) → length (tablesBy s j .cell a w c) ≤ 1
-    single a w c = in-range (ltb a (j .actions) && ltb (w .0) (j .worlds) && ltb c (columns (j .kinds)))
-      where
-        is-legal : (b : Bool) (x : Outcome) → length (cond b [] (x ∷ [])) ≤ 1
-        is-legal true x = omega arith
-        is-legal false x = omega arith
-
-        in-range : (b : Bool) →
-            length (cond b (outcomes (byte s (nextPlace j a w c)) (byte s (resultPlace j a w c))) []) ≤ 1
-        in-range true = is-legal (eqb (byte s (resultPlace j a w c)) 255) _
-        in-range false = omega arith
+    single a w c =
+        choice (λ (l : List Outcome). length l ≤ 1)
+        (ltb a (j .actions) && ltb (w .0) (j .worlds) && ltb c (columns (j .kinds)))
+        (λ e. at-most-one (byte s (nextPlace j a w c)) (byte s (resultPlace j a w c)))
+        (λ e. omega arith)
 
     next-range : (a : Action) (w w′ : WorldState) (c : ℕ) (r : Result) → outcome w′ r ∈ tablesBy s j .cell a w c →
         w′ .0 < j .worlds
@@ -158,27 +150,25 @@ module _ (s : List ℕ) (j : Job) where
         rw (cell .result)
         (cell-result (j .worlds) (j .results) (byte s (nextPlace j a w c)) _ (cell-right a w c (cell .action-in) (cell .world-in) (cell .column-in)) (cell .legal))
 
-    -- In column 0, for an action that is marked as moving on.
+    -- An action that moves on has no outcome in column 0.
     no-outcome : (a : Action) (w : WorldState) → a < j .actions → eqb (byte s (markPlace j a)) 1 ≡ true →
         tablesBy s j .cell a w 0 ≡ []
-    no-outcome a w a< moves = in-range (ltb a (j .actions) && ltb (w .0) (j .worlds) && ltb 0 (columns (j .kinds))) refl
-      where
-        in-range : (b : Bool) → ltb a (j .actions) && ltb (w .0) (j .worlds) && ltb 0 (columns (j .kinds)) ≡ b →
-            cond b (outcomes (byte s (nextPlace j a w 0)) (byte s (resultPlace j a w 0))) [] ≡ []
-        in-range true e =
-            let w< = ltb-true _ _ (both (ltb a (j .actions)) _ (both _ (ltb 0 (columns (j .kinds))) e .0) .1) in
-            rw (end-result a (w .0) a< w< moves)
-        in-range false e = refl
+    no-outcome a w a< moves =
+        choice (λ l. l ≡ []) (ltb a (j .actions) && ltb (w .0) (j .worlds) && ltb 0 (columns (j .kinds)))
+        (λ e. let w< = ltb-true _ _ (and-eq-true-iff (ltb a (j .actions)) _ .0 (and-eq-true-iff _ _ .0 e .0) .1) in
+        rw (end-result a (w .0) a< w< moves))
+        (λ e. refl)
 
     end-stays : (a : Action) (w : WorldState) (c : ℕ) → movesOn (tablesBy s j) a ≡ true → c < endKinds (tablesBy s j) →
         tablesBy s j .cell a w c ≡ []
     unfolding endKinds
-    end-stays a w c moves c< = let at-end : c ≡ 0 = omega arith in rw at-end (by (ltb a (j .actions)) refl moves)
-      where
-        by : (b : Bool) → ltb a (j .actions) ≡ b → eqb (cond b (byte s (markPlace j a)) 0) 1 ≡ true →
-            tablesBy s j .cell a w 0 ≡ []
-        by true e m = no-outcome a w (ltb-true _ _ e) m
-        by false e m = let z : false ≡ true = m in cc
+    end-stays a w c moves c< =
+        let at-end : c ≡ 0 = omega arith in
+        rw at-end
+        (choice (λ n. eqb n 1 ≡ true → tablesBy s j .cell a w 0 ≡ []) (ltb a (j .actions))
+        (λ e m. no-outcome a w (ltb-true _ _ e) m)
+        (λ e m. let z : false ≡ true = m in cc)
+        moves)
 
     some-start : (w : WorldState) × (tablesBy s j .start w ≡ true)
     some-start =
@@ -193,21 +183,15 @@ module _ (s : List ℕ) (j : Job) where
 
     target-range : (q q′ : ProgramState) (r : Result) → tablesBy s j .target q r ≡ some q′ →
         (r < j .results) × (q′ .0 ≤ j .states)
-    target-range q q′ r = in-range (ltb (q .0) (j .states) && ltb r (j .results)) refl
-      where
-        is-branch : (b : Bool) → eqb (byte s (targetPlace j q r)) 255 ≡ b → q .0 < j .states → r < j .results →
-            cond b none (some (programState (byte s (targetPlace j q r)))) ≡ some q′ → (r < j .results) × (q′ .0 ≤ j .states)
-        is-branch true e q< r< t = absurd (let z : _≡_ {A = ℕ} 0 1 = cc in omega arith)
-        is-branch false e q< r< t =
-            let is : byte s (targetPlace j q r) ≡ q′ .0 = cc in
-            (r<, rw (sym is) (target-right q r q< r< e))
-
-        in-range : (b : Bool) → ltb (q .0) (j .states) && ltb r (j .results) ≡ b →
-            cond b (branch (byte s (targetPlace j q r))) none ≡ some q′ → (r < j .results) × (q′ .0 ≤ j .states)
-        in-range true e t =
-            let tests = both _ _ e in
-            is-branch (eqb (byte s (targetPlace j q r)) 255) refl (ltb-true _ _ (tests .0)) (ltb-true _ _ (tests .1)) t
-        in-range false e t = absurd (let z : _≡_ {A = ℕ} 0 1 = cc in omega arith)
+    target-range q q′ r =
+        choice (λ o. o ≡ some q′ → (r < j .results) × (q′ .0 ≤ j .states)) (ltb (q .0) (j .states) && ltb r (j .results))
+        (λ inside. let tests = and-eq-true-iff _ _ .0 inside in
+        let r< = ltb-true _ _ (tests .1) in
+        choice (λ o. o ≡ some q′ → (r < j .results) × (q′ .0 ≤ j .states)) (eqb (byte s (targetPlace j q r)) 255)
+        (λ e t. absurd (let z : _≡_ {A = ℕ} 0 1 = cc in omega arith))
+        (λ e t. let is : byte s (targetPlace j q r) ≡ q′ .0 = cc in
+        (r<, rw (sym is) (target-right q r (ltb-true _ _ (tests .0)) r< e))))
+        (λ e t. absurd (let z : _≡_ {A = ℕ} 0 1 = cc in omega arith))
 
     tables-well-formed : WellFormed (tablesBy s j)
     tables-well-formed =
@@ -223,7 +207,7 @@ module _ (s : List ℕ) (j : Job) where
           next-range = next-range;
           result-range = result-range;
           end-stays = end-stays;
-          start-range = λ w set. ltb-true _ _ (both _ _ set .0);
+          start-range = λ w set. ltb-true _ _ (and-eq-true-iff _ _ .0 set .0);
           some-start = some-start;
           action-range = action-range;
           target-range = target-range;
@@ -231,25 +215,27 @@ module _ (s : List ℕ) (j : Job) where
 
 -- ---- the law
 
+-- What is known of a file s for which the reader answered the job j.
 pub record Sound (s : List ℕ) (j : Job) : Type 0 where
   pub is-head : j ≡ head s
   pub laid : Laid s j
   pub well-formed : WellFormed (tablesOf s)
 
--- What every crate above knows of a file that is not refused.
+-- This is known wherever the reader answered j.
 pub sound : (s : List ℕ) (j : Job) → Opened s j → Sound s j
 sound s j opened =
     let none = none-applies s j opened in
-    let placed = laid s j (none .numbers) (none .pairs) (none .lengths) in
+    let placed = laid s j (none .numbers) (none .places) (none .lengths) in
     record {
       is-head = none .is-head;
       laid = placed;
       well-formed = subst (λ (h : Job). WellFormed (tablesBy s h)) (none .is-head) (tables-well-formed s j none placed);
     }
 
--- The tables by the job that the reader answered are the file's, so they are well-formed too.
+-- The tables by the job that the reader answered are those of the file.
 pub tables-are : (s : List ℕ) (j : Job) → Opened s j → tablesBy s j ≡ tablesOf s
 tables-are s j opened = ap (tablesBy s) (sound s j opened .is-head)
 
+-- The tables by that job are well formed too.
 pub well-formed-by : (s : List ℕ) (j : Job) → Opened s j → WellFormed (tablesBy s j)
 well-formed-by s j opened = rw (tables-are s j opened) (sound s j opened .well-formed)

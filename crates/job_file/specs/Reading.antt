@@ -1,12 +1,11 @@
--- What the reader answers (document 01, "Job file" and "Who can cause which number").
+-- What the reader answers (01, "Job file" and "Who can cause which number").
 use mathlib.Core.Path.{_≡_}
 use mathlib.Core.List.{List, [], _∷_}
 use Prim.Native.Nat.{ℕ}
-use lib.ListN.{drop}
 use Rattle.lamp_line.specs.Refusals.{Rule, _when_, answerBy}
 use Rattle.job_layout.specs.declared.Job.{Job}
 use Rattle.job_layout.specs.Layout.{head}
-use Rattle.job_rules.specs.Rules.{sizeWrong, numberWrong, pairWrong, lengthWrong, markWrong, cellWrong, endWrong, startWrong, goalWrong, actionWrong, targetWrong}
+use Rattle.job_rules.specs.Rules.{sizeWrong, numberWrong, placeWrong, lengthWrong, markWrong, cellWrong, endWrong, startWrong, goalWrong, actionWrong, targetWrong}
 use Rattle.job_file.specs.declared.Reading.{Reading}
 use Rattle.job_file.specs.declared.Reading.the-variants as reading
 
@@ -15,7 +14,7 @@ abbrev pub rules : List ℕ → Job → List Rule
 rules s j =
     (1 when sizeWrong s) ∷
     (2 when numberWrong s j) ∷
-    (3 when pairWrong s j) ∷
+    (3 when placeWrong s j) ∷
     (4 when lengthWrong j) ∷
     (5 when markWrong s j) ∷
     (6 when cellWrong s j) ∷
@@ -26,24 +25,14 @@ rules s j =
     (11 when targetWrong s j) ∷
     []
 
--- The refusals of a file, which every operation gives before its own.
+-- The refusals of a file. Every operation tests them before its own.
 abbrev pub fileRules : List ℕ → List Rule
 fileRules s = rules s (head s)
 
--- "The reader answers bytes 0 to 5 and the five pairs as numbers, or a refusal": "the lowest number that applies is given, and
--- only if its condition holds".
+-- The reader's answer: the job in the file's head, or the lowest refusal that applies.
 unfoldable pub readingOf : List ℕ → Reading
 readingOf s = answerBy reading.Refused (fileRules s) (reading.Job (head s))
-
--- The same for a file to which the first n rules do not apply.
-unfoldable pub readingFrom : ℕ → List ℕ → Job → Reading
-readingFrom n s j = answerBy reading.Refused (drop n (rules s j)) (reading.Job j)
 
 -- The file is not refused, and the reader answers this job.
 abbrev pub Opened : List ℕ → Job → Type 0
 Opened s j = readingOf s ≡ reading.Job j
-
--- The number of a refusal, and 0 where the file is not refused.
-abbrev pub refusalOf : Reading → ℕ
-refusalOf (reading.Job j) = 0
-refusalOf (reading.Refused number) = number

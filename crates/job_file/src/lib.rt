@@ -1,12 +1,13 @@
-// The job file reader (document 01, "Job file"). `read_job` is the operation; it asks nothing of its caller.
+// The job file reader (01, "Job file"). `read_job` is the operation; it asks nothing of its caller.
 ghost use mathlib.Core.Path.{_≡_};
-ghost use Rattle.job_layout.specs.Laid.{Laid};
-ghost use Rattle.job_file.specs.Reading.{readingOf, readingFrom, refusalOf};
+ghost use Rattle.job_layout.specs.inner.Laid.{Laid};
+ghost use Rattle.job_file.specs.Reading.{readingOf};
+ghost use Rattle.job_file.specs.inner.ReaderSteps.{readingFrom, refusalOf};
 use job_layout::Job;
 use job_layout::head::read_head;
 use job_rules::head_rules::length_wrong;
 use job_rules::head_rules::number_wrong;
-use job_rules::head_rules::pair_wrong;
+use job_rules::head_rules::place_wrong;
 use job_rules::part_rules::action_wrong;
 use job_rules::part_rules::cell_wrong;
 use job_rules::part_rules::end_wrong;
@@ -15,12 +16,13 @@ use job_rules::part_rules::mark_wrong;
 use job_rules::part_rules::start_wrong;
 use job_rules::part_rules::target_wrong;
 
+// What the reader answers: the job, or the number of a refusal.
 pub enum Reading {
     Job(Job),
     Refused(u8),
 }
 
-// The reader: what the job file holds, or the lowest refusal that applies to it.
+// The reader: the job in the file's head, or the lowest refusal that applies to the file.
 pub fn read_job(file: &[u8]) -> Reading
     ensures { λ r. ⌜ r ≡ readingOf (now (file .entry)) ⌝ }
 {
@@ -32,7 +34,7 @@ pub fn read_job(file: &[u8]) -> Reading
     if number_wrong(file, job) {
         return Reading::Refused(2);
     }
-    if pair_wrong(file, job) {
+    if place_wrong(file, job) {
         return Reading::Refused(3);
     }
     if length_wrong(job) {
@@ -51,8 +53,8 @@ pub fn refusal_number(reading: Reading) -> u8
     }
 }
 
-// The rest of the reader's tests, once refusals 1 to 4 are out. Each test goes over its whole part before the next begins, so
-// that the lowest number is found.
+// The rest of the reader's tests, once refusals 1 to 4 are ruled out. Each test goes over its whole part, and the lowest number
+// is answered.
 fn read_parts(file: &[u8], job: Job) -> Reading
     requires { ⌜ Laid (now file) job ⌝ }
     ensures { λ r. ⌜ r ≡ readingFrom 4 (now (file .entry)) job ⌝ }

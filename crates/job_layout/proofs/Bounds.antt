@@ -1,19 +1,23 @@
--- The bounds of the places of a job's entries: each fits its type, and in a file that is laid out as it must be it lies in the file.
+-- Bounds for the places of a job's entries: each fits its type, and it lies in the file if the file is laid out as it must be.
+use mathlib.Core.Path.{_≡_}
 use mathlib.Core.List.{List}
-use Prim.Native.Nat.{ℕ, _+_, _*_, _≤_, _<_}
+use Prim.Native.Nat.{ℕ, _+_, _*_, _^_, _≤_, _<_}
+use native.Mathlib.Nat.{lt-trans}
 use native.Mathlib.Omega.{arith}
 use lib.Arith.{digits-lt}
 use lib.ListN.{length}
+use mir.Syntax.{w64}
+use mir.Val.{Fits}
 use Rattle.plans.specs.Plan.{Action, Result}
 use Rattle.lamp_line.specs.declared.ProgramState.{ProgramState}
 use Rattle.lamp_line.specs.declared.WorldState.{WorldState}
 use Rattle.lamp_line.specs.Tables.{columns}
 use Rattle.lamp_line.proofs.Products.{product-le}
 use Rattle.job_layout.specs.declared.Job.{Job}
-use Rattle.job_layout.specs.Laid.{Laid}
-use Rattle.job_layout.specs.Layout.{markPlace, resultPlace, startPlace, goalPlace, actionPlace, targetPlace}
+use Rattle.job_layout.specs.inner.Laid.{Laid}
+use Rattle.job_layout.specs.Layout.{markPlace, nextPlace, startPlace, goalPlace, actionPlace}
 
--- The place of a cell among the cells, for numbers of the widths that the head has.
+-- The place of a cell among the cells is small, whatever the bytes of the head are.
 pub cell-fits :
     (action worlds world columns : ℕ) → action ≤ 255 → worlds ≤ 255 → world ≤ 255 → columns ≤ 65535 →
     (action * worlds + world) * columns ≤ 65280 * 65535
@@ -22,38 +26,58 @@ cell-fits action worlds world columns a w x c =
     product-le 65280 65535 (action * worlds + world) columns (omega arith) c
 
 -- Column 0 is one of the columns.
-pub end-column : (kinds : ℕ) → 0 < columns kinds
+pub column-zero-in : (kinds : ℕ) → 0 < columns kinds
 unfolding columns
-end-column kinds = omega arith
+column-zero-in kinds = omega arith
 
-module _ (s : List ℕ) (j : Job) (laid : Laid s j) where
-  pub mark-in : (a : Action) → a < j .actions → markPlace j a < length s
-  mark-in a a< = omega (arith, laid .marks-in)
+-- What is below the length of a slice fits 64 bits.
+pub below-fits : (n m : ℕ) → n < m → m < 2 ^ 64 → Fits w64 n
+below-fits n m n< m< = record { fits = lt-trans n< m< }
 
-  -- The result of a cell, and with it its next world state.
-  pub result-in :
-      (a : Action) (w : WorldState) (c : ℕ) → a < j .actions → w .0 < j .worlds → c < columns (j .kinds) →
-      resultPlace j a w c < length s
-  result-in a w c a< w< c< =
-      let row = digits-lt {q = a} {m = j .actions} {r = w .0} {c = j .worlds} a< w< in
-      let cell = digits-lt {q = a * j .worlds + w .0} {m = j .actions * j .worlds} {r = c} {c = columns (j .kinds)} row c< in
-      omega (arith, laid .cells-in)
+-- ---- the place that the code has computed lies in the file
 
-  pub start-in : (w : WorldState) → w .0 < j .worlds → startPlace j w < length s
-  start-in w w< = omega (arith, laid .starts-in)
+module _ {s : List ℕ} {j : Job} (laid : Laid s j) {at : ℕ} where
+  -- An action's mark.
+  pub mark-in : {a : Action} → at ≡ markPlace j a → a < j .actions → at < length s
+  mark-in e a< = omega (arith, laid .marks-in)
 
-  pub goal-in : (w : WorldState) (c : ℕ) → w .0 < j .worlds → c < columns (j .kinds) → goalPlace j w c < length s
-  goal-in w c w< c< =
+  -- A cell: its next world state, and after it its result.
+  module _
+      (a : Action) (w : WorldState) (c : ℕ) (e : at ≡ nextPlace j a w c) (a< : a < j .actions) (w< : w .0 < j .worlds)
+      (c< : c < columns (j .kinds)) where
+    pub result-in : at + 1 < length s
+    result-in =
+        let row = digits-lt {q = a} {m = j .actions} {r = w .0} {c = j .worlds} a< w< in
+        let cell = digits-lt {q = a * j .worlds + w .0} {m = j .actions * j .worlds} {r = c} {c = columns (j .kinds)} row c< in
+        omega (arith, laid .cells-in)
+
+    pub next-in : at < length s
+    next-in = omega (arith, result-in)
+
+  -- The mark of a world state among the starts.
+  pub start-in : (w : WorldState) → at ≡ startPlace j w → w .0 < j .worlds → at < length s
+  start-in w e w< = omega (arith, laid .starts-in)
+
+  -- A cell of the goal.
+  pub goal-in : (w : WorldState) (c : ℕ) → at ≡ goalPlace j w c → w .0 < j .worlds → c < columns (j .kinds) → at < length s
+  goal-in w c e w< c< =
       omega (arith, laid .goal-in, digits-lt {q = w .0} {m = j .worlds} {r = c} {c = columns (j .kinds)} w< c<)
 
-  -- The row of a program state: its action and its targets.
-  pub row-in : (q : ProgramState) → q .0 < j .states → actionPlace j q + 1 + j .results ≤ length s
-  row-in q q< =
-      let last = digits-lt {q = q .0} {m = j .states} {r = j .results} {c = 1 + j .results} q< (omega arith) in
-      omega (arith, laid .plan-in)
+  -- The row of a program state: its action, and after it its targets.
+  module _ (q : ProgramState) (e : at ≡ actionPlace j q) (q< : q .0 < j .states) where
+    pub row-in : at + 1 + j .results ≤ length s
+    row-in =
+        let last = digits-lt {q = q .0} {m = j .states} {r = j .results} {c = 1 + j .results} q< (omega arith) in
+        omega (arith, laid .plan-in)
 
-  pub action-in : (q : ProgramState) → q .0 < j .states → actionPlace j q < length s
-  action-in q q< = omega (arith, row-in q q<)
+    -- The action.
+    pub action-in : at < length s
+    action-in = omega (arith, row-in)
 
-  pub target-in : (q : ProgramState) (r : Result) → q .0 < j .states → r < j .results → targetPlace j q r < length s
-  target-in q r q< r< = omega (arith, row-in q q<)
+    -- The first target, where there is one.
+    pub targets-in : {r : Result} → r < j .results → at + 1 < length s
+    targets-in r< = omega (arith, row-in)
+
+    -- The target of the result r.
+    pub target-in : {r : Result} → r < j .results → at + 1 + r < length s
+    target-in r< = omega (arith, row-in)

@@ -1,3 +1,1 @@
-pub mod BenchCabinet
-pub mod BenchRuns
 pub mod Bounds

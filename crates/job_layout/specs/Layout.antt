@@ -1,4 +1,4 @@
--- The layout of a job file (document 01, "Job file"): its head, the lengths that its parts must have, and the place of each entry.
+-- The layout of a job file (01, "Job file"): its head, the lengths that its parts must have, and the place of each entry.
 -- A file is the list of its bytes.
 use mathlib.Core.List.{List}
 use Prim.Native.Nat.{ℕ, _+_, _*_}
@@ -10,18 +10,19 @@ use Rattle.lamp_line.specs.Tables.{programState, columns}
 use Rattle.job_layout.specs.declared.Part.{Part}
 use Rattle.job_layout.specs.declared.Job.{Job}
 
+-- Byte i of the file, or 0 where the file has none.
 abbrev pub byte : List ℕ → ℕ → ℕ
 byte s i = getD s i 0
 
--- "16-bit numbers least significant byte first."
-abbrev pub word : List ℕ → ℕ → ℕ
-word s i = byte s i + 256 * byte s (i + 1)
+-- A 16-bit number takes two bytes, the low one first.
+abbrev pub number16 : List ℕ → ℕ → ℕ
+number16 s i = byte s i + 256 * byte s (i + 1)
 
--- A pair "of offset and length, 16 bits each".
+-- The offset and length of a part, a 16-bit number each.
 abbrev pub part : List ℕ → ℕ → Part
-part s i = record { offset = word s i; length = word s (i + 2) }
+part s i = record { offset = number16 s i; length = number16 s (i + 2) }
 
--- Bytes 0 to 5, and the five pairs of bytes 8 to 27.
+-- The numbers in bytes 0 to 5, and the offsets and lengths of the five parts in bytes 8 to 27.
 abbrev pub head : List ℕ → Job
 head s =
     record {
@@ -61,24 +62,26 @@ planLength j = j .states * (1 + j .results)
 
 -- ---- the place of each entry in the file
 
+-- One byte for each action.
 abbrev pub markPlace : Job → Action → ℕ
 markPlace j a = j .marks .offset + a
 
--- "Cell (a, w, c) at 2·((a·W + w)·(C+1) + c): next world state, then result."
+-- The cells are ordered by action, then by world state, then by column. Each has two bytes: the next world state and the result.
 abbrev pub nextPlace : Job → Action → WorldState → ℕ → ℕ
 nextPlace j a w c = j .cells .offset + 2 * ((a * j .worlds + w .0) * columns (j .kinds) + c)
 
 abbrev pub resultPlace : Job → Action → WorldState → ℕ → ℕ
 resultPlace j a w c = nextPlace j a w c + 1
 
+-- One byte for each world state.
 abbrev pub startPlace : Job → WorldState → ℕ
 startPlace j w = j .starts .offset + w .0
 
--- "At w·(C+1) + c."
+-- The goal cells are ordered by world state, then by column.
 abbrev pub goalPlace : Job → WorldState → ℕ → ℕ
 goalPlace j w c = j .goal .offset + (w .0 * columns (j .kinds) + c)
 
--- "For each state its action, then a target for each result."
+-- The plan has a row for each program state: first its action, then its target for each result.
 abbrev pub actionPlace : Job → ProgramState → ℕ
 actionPlace j q = j .plan .offset + q .0 * (1 + j .results)
 

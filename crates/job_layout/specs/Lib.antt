@@ -1,4 +1,3 @@
-pub mod BenchLine
 pub mod JobTables
-pub mod Laid
 pub mod Layout
+pub mod inner

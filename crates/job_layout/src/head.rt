@@ -2,14 +2,14 @@
 ghost use mathlib.Core.Path.{_≡_};
 ghost use Prim.Native.Nat.{_+_, _≤_};
 ghost use lib.ListN.{length};
-ghost use Rattle.job_layout.specs.Layout.{word, part, head};
+ghost use Rattle.job_layout.specs.Layout.{number16, part, head};
 use crate::Job;
 use crate::Part;
 use lamp_line::ProgramState;
 
 fn read_word(file: &[u8], at: usize) -> u16
     requires { ⌜ at + 2 ≤ length (now file) ⌝ }
-    ensures { λ r. ⌜ r ≡ word (now (file .entry)) at ⌝ }
+    ensures { λ r. ⌜ r ≡ number16 (now (file .entry)) at ⌝ }
 {
     let low = file[at] as u16;
     let high = file[at + 1] as u16;
@@ -26,7 +26,8 @@ fn read_part(file: &[u8], at: usize) -> Part
     }
 }
 
-// For the crates above and not for users: it asks for a file that has a head, which refusal 1 has to find out first.
+// The job in the head of a file. For the crates above and not for users: it asks for a file that is long enough to have a head,
+// which refusal 1 tests.
 pub fn read_head(file: &[u8]) -> Job
     requires { ⌜ 28 ≤ length (now file) ⌝ }
     ensures { λ r. ⌜ r ≡ head (now (file .entry)) ⌝ }

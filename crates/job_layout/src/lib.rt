@@ -1,17 +1,17 @@
-// The layout of a job file (document 01, "Job file"): its head, and the places of its entries.
+// The layout of a job file (01, "Job file"): its head, and the places of its entries.
 use lamp_line::ProgramState;
 
 pub mod head;
 pub mod places;
 
-// A pair of the file's head: where a part begins, and how many bytes it has.
+// A part of the file: where it begins, and how many bytes it has.
 pub struct Part {
     pub offset: u16,
     pub length: u16,
 }
 
-// What the reader answers of a file that is not refused: bytes 0 to 5, which are A, W, C, R, S and the first program state, and
-// the five pairs.
+// What the reader answers for a file that is not refused: bytes 0 to 5, which are A, W, C, R, S and the first program state, and
+// the offset and length of each part.
 pub struct Job {
     pub actions: u8,
     pub worlds: u8,

@@ -6,7 +6,7 @@ use crate::Job;
 use lamp_line::ProgramState;
 use lamp_line::WorldState;
 
-// The columns of the tables for so many kinds: the line's end and each kind.
+// How many columns the tables have: one for the line's end and one for each kind.
 pub fn column_count(kinds: u8) -> u16
     ensures { λ r. ⌜ r ≡ columns kinds ⌝ }
 {
@@ -40,7 +40,7 @@ pub fn mark_place(job: Job, action: u8) -> usize
     job.marks.offset as usize + action as usize
 }
 
-// Where a cell has its next world state; its result is one place behind.
+// Where a cell has its next world state; its result is the byte after it.
 pub fn next_place(job: Job, action: u8, world: WorldState, column: u8) -> usize
     ensures { λ r. ⌜ r ≡ nextPlace job action world column ⌝ }
 {
@@ -60,7 +60,7 @@ pub fn goal_place(job: Job, world: WorldState, column: u8) -> usize
     job.goal.offset as usize + (world.row(column_count(job.kinds)) + column as usize)
 }
 
-// Where the plan has the action of a program state; its targets are behind it, in the order of the results.
+// Where the plan has the action of a program state; its targets follow, in the order of the results.
 pub fn action_place(job: Job, state: ProgramState) -> usize
     ensures { λ r. ⌜ r ≡ actionPlace job state ⌝ }
 {

@@ -1,31 +1,33 @@
--- A file to which none of refusals 1 to 4 applies is laid out as it must be.
-use mathlib.Core.Path.{_≡_, refl, sym, ap, subst}
-use mathlib.Core.Bool.{Bool, true, false, _||_, not}
+-- A file to which none of refusals 2 to 4 applies is laid out as it must be: the law `laid`, and what it is made of.
+use mathlib.Core.Path.{_≡_, refl}
+use mathlib.Core.Bool.{Bool, true, false, _||_}
 use mathlib.Core.List.{List}
-use Prim.Native.Nat.{ℕ, _+_, _≤_}
-use native.Mathlib.Omega.{arith}
+use Prim.Native.Nat.{ℕ, _≤_}
 use borrow.Author.Tests.{ltb-false, eqb-true, not-false}
 use lib.Dec.{ltb, eqb}
 use lib.ListN.{length}
 use Rattle.job_layout.specs.declared.Job.{Job}
 use Rattle.job_layout.specs.declared.Part.{Part}
-use Rattle.job_layout.specs.Laid.{Laid}
+use Rattle.job_layout.specs.inner.Laid.{Laid}
 use Rattle.job_layout.specs.Layout.{marksLength, cellsLength, startsLength, goalLength, planLength}
-use Rattle.job_rules.specs.Rules.{outside, numberWrong, endOf, misplaced, pairWrong, differs, lengthWrong}
+use Rattle.job_rules.specs.Rules.{outside, numberWrong, endOf, misplaced, placeWrong, differs, lengthWrong}
 
--- A choice that is false is false on both sides.
+-- If a disjunction is false, both its sides are.
 pub neither : (a b : Bool) → (a || b) ≡ false → (a ≡ false) × (b ≡ false)
 neither true b e = (e, let z : true ≡ false = e in cc)
 neither false b e = (refl, e)
 
+-- A number that is not outside a range lies in it.
 inside : (low high n : ℕ) → outside low high n ≡ false → (low ≤ n) × (n ≤ high)
 inside low high n e =
     let both = neither (ltb n low) (ltb high n) e in
     (ltb-false n low (both .0), ltb-false high n (both .1))
 
+-- A part that is not misplaced ends within the file.
 placed : (size before : ℕ) (p : Part) → misplaced size before p ≡ false → endOf p ≤ size
 placed size before p e = ltb-false size (endOf p) (neither (ltb (p .offset) before) (ltb size (endOf p)) e .1)
 
+-- Numbers that do not differ are equal.
 same : (m n : ℕ) → differs m n ≡ false → m ≡ n
 same m n e = eqb-true m n (not-false (eqb m n) e)
 
@@ -64,8 +66,8 @@ module _ (s : List ℕ) (j : Job) where
     pub goal : endOf (j .goal) ≤ length s
     pub plan : endOf (j .plan) ≤ length s
 
-  parts-inside : pairWrong s j ≡ false → PartsInside
-  unfolding pairWrong
+  parts-inside : placeWrong s j ≡ false → PartsInside
+  unfolding placeWrong
   parts-inside e =
       let to-plan = neither _ _ e in
       let to-goal = neither _ _ (to-plan .0) in
@@ -101,10 +103,11 @@ module _ (s : List ℕ) (j : Job) where
         plan = same (j .plan .length) (planLength j) (to-plan .1);
       }
 
-  pub laid : numberWrong s j ≡ false → pairWrong s j ≡ false → lengthWrong j ≡ false → Laid s j
-  laid numbers pairs lengths =
+  -- A file to which none of rules 2 to 4 applies is laid out as it must be.
+  pub laid : numberWrong s j ≡ false → placeWrong s j ≡ false → lengthWrong j ≡ false → Laid s j
+  laid numbers places lengths =
       let n = numbers-inside numbers in
-      let p = parts-inside pairs in
+      let p = parts-inside places in
       let l = lengths-right lengths in
       record {
         actions-range = n .actions;

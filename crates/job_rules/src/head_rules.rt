@@ -1,10 +1,11 @@
 // Refusals 2, 3 and 4: the numbers of the head, the places of the parts and their lengths.
 //
-// These functions are for the reader in the crate above and not for users: each asks for what the refusals before it have found.
+// These functions are for the reader in the crate above and not for users: `number_wrong` asks for a file that is long enough to
+// have a head, which refusal 1 tests.
 ghost use mathlib.Core.Path.{_≡_};
 ghost use Prim.Native.Nat.{_≤_};
 ghost use lib.ListN.{length};
-ghost use Rattle.job_rules.specs.Rules.{outside, numberWrong, endOf, misplaced, pairWrong, differs, lengthWrong};
+ghost use Rattle.job_rules.specs.Rules.{outside, numberWrong, endOf, misplaced, placeWrong, differs, lengthWrong};
 use job_layout::Job;
 use job_layout::Part;
 use job_layout::places::cell_count;
@@ -17,6 +18,7 @@ fn is_outside(low: u8, high: u8, n: u8) -> bool
     (n < low) | (high < n)
 }
 
+// Refusal 2 applies.
 pub fn number_wrong(file: &[u8], job: Job) -> bool
     requires { ⌜ 28 ≤ length (now file) ⌝ }
     ensures { λ r. ⌜ r ≡ numberWrong (now (file .entry)) job ⌝ }
@@ -31,7 +33,7 @@ pub fn number_wrong(file: &[u8], job: Job) -> bool
         | is_outside(0, 0, file[7])
 }
 
-// Offset and length are 16-bit numbers each; their sum may take one bit more.
+// Offset and length are 16-bit numbers each; their sum may need 17 bits.
 fn end_of(part: Part) -> usize
     ensures { λ r. ⌜ r ≡ endOf part ⌝ }
 {
@@ -44,8 +46,9 @@ fn is_misplaced(size: usize, before: usize, part: Part) -> bool
     ((part.offset as usize) < before) | (size < end_of(part))
 }
 
-pub fn pair_wrong(file: &[u8], job: Job) -> bool
-    ensures { λ r. ⌜ r ≡ pairWrong (now (file .entry)) job ⌝ }
+// Refusal 3 applies.
+pub fn place_wrong(file: &[u8], job: Job) -> bool
+    ensures { λ r. ⌜ r ≡ placeWrong (now (file .entry)) job ⌝ }
 {
     let size = file.len();
     is_misplaced(size, 28, job.marks)
@@ -61,6 +64,7 @@ fn has_other_length(part: Part, length: usize) -> bool
     part.length as usize != length
 }
 
+// Refusal 4 applies.
 pub fn length_wrong(job: Job) -> bool
     ensures { λ r. ⌜ r ≡ lengthWrong job ⌝ }
 {

@@ -1,12 +1,12 @@
 // Refusals 5 to 11: the bytes of the parts.
 //
-// These functions are for the reader in the crate above and not for users: each asks that the parts lie in the file, which
-// refusals 1 to 4 have made sure of.
+// These functions are for the reader in the crate above and not for users: each asks for parts that lie in the file, which
+// refusals 1 to 4 ensure.
 ghost use mathlib.Core.Path.{_≡_};
 ghost use Prim.Native.Nat.{_+_, _*_, _≤_, _<_};
 ghost use lib.ListN.{length};
 ghost use Rattle.lamp_line.specs.Refusals.{some-below};
-ghost use Rattle.job_layout.specs.Laid.{Laid};
+ghost use Rattle.job_layout.specs.inner.Laid.{Laid};
 ghost use Rattle.job_rules.specs.Rules.{notBit, markWrong, goalWrong, isSet, startWrong, cellWrongIn, cellWrongAt, cellWrong, legalAtEnd, movesOnAtEnd, endWrong, actionWrong, targetWrongAt, rowWrong, targetWrong};
 use job_layout::Job;
 use job_layout::places::action_place;
@@ -47,6 +47,7 @@ fn any_set(file: &[u8], from: usize, count: usize) -> bool
     false
 }
 
+// Refusal 5 applies.
 pub fn mark_wrong(file: &[u8], job: Job) -> bool
     requires { ⌜ Laid (now file) job ⌝ }
     ensures { λ r. ⌜ r ≡ markWrong (now (file .entry)) job ⌝ }
@@ -55,6 +56,7 @@ pub fn mark_wrong(file: &[u8], job: Job) -> bool
     any_not_bit(file, marks.offset as usize, job.actions as usize)
 }
 
+// Refusal 9 applies.
 pub fn goal_wrong(file: &[u8], job: Job) -> bool
     requires { ⌜ Laid (now file) job ⌝ }
     ensures { λ r. ⌜ r ≡ goalWrong (now (file .entry)) job ⌝ }
@@ -63,6 +65,7 @@ pub fn goal_wrong(file: &[u8], job: Job) -> bool
     any_not_bit(file, goal.offset as usize, goal_count(job))
 }
 
+// Refusal 8 applies.
 pub fn start_wrong(file: &[u8], job: Job) -> bool
     requires { ⌜ Laid (now file) job ⌝ }
     ensures { λ r. ⌜ r ≡ startWrong (now (file .entry)) job ⌝ }
@@ -73,7 +76,7 @@ pub fn start_wrong(file: &[u8], job: Job) -> bool
     any_not_bit(file, from, count) | !any_set(file, from, count)
 }
 
-// A cell that is legal and in range, as most are, is told by the first two tests.
+// Most cells are legal and in range; for those the first two tests are enough.
 fn is_cell_wrong(worlds: u8, results: u8, next: u8, result: u8) -> bool
     ensures { λ r. ⌜ r ≡ cellWrongIn worlds results next result ⌝ }
 {
@@ -102,6 +105,7 @@ fn any_cell_wrong(file: &[u8], from: usize, count: usize, worlds: u8, results: u
     false
 }
 
+// Refusal 6 applies.
 pub fn cell_wrong(file: &[u8], job: Job) -> bool
     requires { ⌜ Laid (now file) job ⌝ }
     ensures { λ r. ⌜ r ≡ cellWrong (now (file .entry)) job ⌝ }
@@ -133,6 +137,7 @@ fn legal_at_end(file: &[u8], job: Job, action: u8) -> bool
     false
 }
 
+// The action moves on, and is legal in column 0 in some world state.
 fn moves_on_at_end(file: &[u8], job: Job, action: u8) -> bool
     requires { ⌜ Laid (now file) job × (action < job .actions) ⌝ }
     ensures { λ r. ⌜ r ≡ movesOnAtEnd (now (file .entry)) job action ⌝ }
@@ -144,6 +149,7 @@ fn moves_on_at_end(file: &[u8], job: Job, action: u8) -> bool
     false
 }
 
+// Refusal 7 applies.
 pub fn end_wrong(file: &[u8], job: Job) -> bool
     requires { ⌜ Laid (now file) job ⌝ }
     ensures { λ r. ⌜ r ≡ endWrong (now (file .entry)) job ⌝ }
@@ -159,6 +165,7 @@ pub fn end_wrong(file: &[u8], job: Job) -> bool
     false
 }
 
+// Refusal 10 applies.
 pub fn action_wrong(file: &[u8], job: Job) -> bool
     requires { ⌜ Laid (now file) job ⌝ }
     ensures { λ r. ⌜ r ≡ actionWrong (now (file .entry)) job ⌝ }
@@ -192,6 +199,7 @@ fn any_target_wrong(file: &[u8], from: usize, count: usize, states: u8) -> bool
     false
 }
 
+// One of the targets of a program state is wrong.
 fn row_wrong(file: &[u8], job: Job, state: u8) -> bool
     requires { ⌜ Laid (now file) job × (state < job .states) ⌝ }
     ensures { λ r. ⌜ r ≡ rowWrong (now (file .entry)) job state ⌝ }
@@ -200,6 +208,7 @@ fn row_wrong(file: &[u8], job: Job, state: u8) -> bool
     any_target_wrong(file, from, job.results as usize, job.states)
 }
 
+// Refusal 11 applies.
 pub fn target_wrong(file: &[u8], job: Job) -> bool
     requires { ⌜ Laid (now file) job ⌝ }
     ensures { λ r. ⌜ r ≡ targetWrong (now (file .entry)) job ⌝ }

@@ -1,12 +1,11 @@
--- The byte at an entry's place is what the tables have there, and the place lies in the file.
+-- The byte at the place that the code computes for an entry is the entry of the tables.
 use mathlib.Core.Path.{_≡_, sym, _∙_, subst}
 use mathlib.Core.Bool.{false}
 use mathlib.Core.Option.{none, some}
 use mathlib.Core.List.{List, [], _∷_}
-use Prim.Native.Nat.{ℕ, _<_, _≤_}
+use Prim.Native.Nat.{ℕ, _+_, _<_, _≤_}
 use borrow.Author.Tests.{lt-ltb, le-ltb, eq-eqb, ne-eqb}
 use lib.Dec.{eqb}
-use lib.ListN.{length}
 use Rattle.plans.specs.Plan.{Action, Result}
 use Rattle.lamp_line.specs.declared.ProgramState.{ProgramState}
 use Rattle.lamp_line.specs.declared.WorldState.{WorldState}
@@ -14,72 +13,62 @@ use Rattle.lamp_line.specs.Tables.{outcome, Tables, programState, worldState, m
 use Rattle.job_layout.specs.declared.Job.{Job}
 use Rattle.job_layout.specs.Layout.{byte, markPlace, nextPlace, resultPlace, startPlace, goalPlace, actionPlace, targetPlace}
 use Rattle.job_layout.specs.JobTables.{outcomes, branch, tablesOf}
-use Rattle.job_layout.proofs.Bounds as bounds
 use Rattle.job_file.specs.Reading.{Opened}
-use Rattle.job_file.proofs.WellFormed.{sound, tables-are}
+use Rattle.job_file.proofs.WellFormed.{tables-are}
 
-module _ (s : List ℕ) (j : Job) (opened : Opened s j) where
-  -- ---- the places
+module _ (s : List ℕ) {j : Job} (opened : Opened s j) {at : ℕ} where
+  -- An action's mark.
+  pub mark-is : (a : Action) → at ≡ markPlace j a → a < j .actions → eqb (byte s at) 1 ≡ movesOn (tablesOf s) a
+  mark-is a e a< = rw e (subst (λ (t : Tables). eqb (byte s (markPlace j a)) 1 ≡ movesOn t a) (tables-are s j opened) (rw (lt-ltb _ _ a<)))
 
-  pub mark-in : (a : Action) → a < j .actions → markPlace j a < length s
-  mark-in = bounds.mark-in s j (sound s j opened .laid)
-
-  pub result-in : (a : Action) (w : WorldState) (c : ℕ) → a < j .actions → w .0 < j .worlds → c < columns (j .kinds) →
-      resultPlace j a w c < length s
-  result-in = bounds.result-in s j (sound s j opened .laid)
-
-  pub start-in : (w : WorldState) → w .0 < j .worlds → startPlace j w < length s
-  start-in = bounds.start-in s j (sound s j opened .laid)
-
-  pub goal-in : (w : WorldState) (c : ℕ) → w .0 < j .worlds → c < columns (j .kinds) → goalPlace j w c < length s
-  goal-in = bounds.goal-in s j (sound s j opened .laid)
-
-  pub action-in : (q : ProgramState) → q .0 < j .states → actionPlace j q < length s
-  action-in = bounds.action-in s j (sound s j opened .laid)
-
-  pub target-in : (q : ProgramState) (r : Result) → q .0 < j .states → r < j .results → targetPlace j q r < length s
-  target-in = bounds.target-in s j (sound s j opened .laid)
-
-  -- ---- the entries
-
-  pub mark-is : (a : Action) → a < j .actions → eqb (byte s (markPlace j a)) 1 ≡ movesOn (tablesOf s) a
-  mark-is a a< = subst (λ (t : Tables). eqb (byte s (markPlace j a)) 1 ≡ movesOn t a) (tables-are s j opened) (rw (lt-ltb _ _ a<))
-
-  module _ (a : Action) (w : WorldState) (c : ℕ) (a< : a < j .actions) (w< : w .0 < j .worlds) (c< : c < columns (j .kinds)) where
-    cell-is : outcomes (byte s (nextPlace j a w c)) (byte s (resultPlace j a w c)) ≡ tablesOf s .cell a w c
+  module _
+      (a : Action) (w : WorldState) (c : ℕ) (e : at ≡ nextPlace j a w c) (a< : a < j .actions) (w< : w .0 < j .worlds)
+      (c< : c < columns (j .kinds)) where
+    cell-is : outcomes (byte s at) (byte s (at + 1)) ≡ tablesOf s .cell a w c
     cell-is =
-        subst (λ (t : Tables). outcomes (byte s (nextPlace j a w c)) (byte s (resultPlace j a w c)) ≡ t .cell a w c) (tables-are s j opened)
-        (rw (lt-ltb _ _ a<, lt-ltb _ _ w<, lt-ltb _ _ c<))
+        rw e
+        (subst (λ (t : Tables). outcomes (byte s (nextPlace j a w c)) (byte s (resultPlace j a w c)) ≡ t .cell a w c) (tables-are s j opened)
+        (rw (lt-ltb _ _ a<, lt-ltb _ _ w<, lt-ltb _ _ c<)))
 
-    pub cell-not-legal : byte s (resultPlace j a w c) ≡ 255 → [] ≡ tablesOf s .cell a w c
-    cell-not-legal e = sym (rw (eq-eqb _ _ e)) ∙ cell-is
+    -- A cell with result 255 has no outcome.
+    pub cell-not-legal : byte s (at + 1) ≡ 255 → [] ≡ tablesOf s .cell a w c
+    cell-not-legal is = sym (rw (eq-eqb _ _ is)) ∙ cell-is
 
-    pub cell-legal : (byte s (resultPlace j a w c) ≡ 255 → ⊥) →
-        outcome (worldState (byte s (nextPlace j a w c))) (byte s (resultPlace j a w c)) ∷ [] ≡ tablesOf s .cell a w c
-    cell-legal e = sym (rw (ne-eqb _ _ e)) ∙ cell-is
+    -- Any other has the outcome of its two bytes.
+    pub cell-legal : ¬ (byte s (at + 1) ≡ 255) → outcome (worldState (byte s at)) (byte s (at + 1)) ∷ [] ≡ tablesOf s .cell a w c
+    cell-legal other = sym (rw (ne-eqb _ _ other)) ∙ cell-is
 
-  pub start-is : (w : WorldState) → w .0 < j .worlds → eqb (byte s (startPlace j w)) 1 ≡ tablesOf s .start w
-  start-is w w< = subst (λ (t : Tables). eqb (byte s (startPlace j w)) 1 ≡ t .start w) (tables-are s j opened) (rw (lt-ltb _ _ w<))
+  -- The mark of a world state among the starts.
+  pub start-is : (w : WorldState) → at ≡ startPlace j w → w .0 < j .worlds → eqb (byte s at) 1 ≡ tablesOf s .start w
+  start-is w e w< = rw e (subst (λ (t : Tables). eqb (byte s (startPlace j w)) 1 ≡ t .start w) (tables-are s j opened) (rw (lt-ltb _ _ w<)))
 
-  pub no-start : (w : WorldState) → j .worlds ≤ w .0 → false ≡ tablesOf s .start w
-  no-start w out = subst (λ (t : Tables). false ≡ t .start w) (tables-are s j opened) (rw (le-ltb _ _ out))
+  -- A cell of the goal.
+  pub goal-is :
+      (w : WorldState) (c : ℕ) → at ≡ goalPlace j w c → w .0 < j .worlds → c < columns (j .kinds) →
+      eqb (byte s at) 1 ≡ tablesOf s .goal w c
+  goal-is w c e w< c< =
+      rw e
+      (subst (λ (t : Tables). eqb (byte s (goalPlace j w c)) 1 ≡ t .goal w c) (tables-are s j opened) (rw (lt-ltb _ _ w<, lt-ltb _ _ c<)))
 
-  pub goal-is : (w : WorldState) (c : ℕ) → w .0 < j .worlds → c < columns (j .kinds) →
-      eqb (byte s (goalPlace j w c)) 1 ≡ tablesOf s .goal w c
-  goal-is w c w< c< =
-      subst (λ (t : Tables). eqb (byte s (goalPlace j w c)) 1 ≡ t .goal w c) (tables-are s j opened) (rw (lt-ltb _ _ w<, lt-ltb _ _ c<))
+  module _ (q : ProgramState) (e : at ≡ actionPlace j q) (q< : q .0 < j .states) where
+    -- The action of a program state.
+    pub action-is : byte s at ≡ tablesOf s .action q
+    action-is = rw e (subst (λ (t : Tables). byte s (actionPlace j q) ≡ t .action q) (tables-are s j opened) (rw (lt-ltb _ _ q<)))
 
-  pub action-is : (q : ProgramState) → q .0 < j .states → byte s (actionPlace j q) ≡ tablesOf s .action q
-  action-is q q< = subst (λ (t : Tables). byte s (actionPlace j q) ≡ t .action q) (tables-are s j opened) (rw (lt-ltb _ _ q<))
+    module _ (r : Result) (r< : r < j .results) where
+      target-is : branch (byte s (at + 1 + r)) ≡ tablesOf s .target q r
+      target-is =
+          rw e
+          (subst (λ (t : Tables). branch (byte s (targetPlace j q r)) ≡ t .target q r) (tables-are s j opened) (rw (lt-ltb _ _ q<, lt-ltb _ _ r<)))
 
-  module _ (q : ProgramState) (r : Result) (q< : q .0 < j .states) (r< : r < j .results) where
-    target-is : branch (byte s (targetPlace j q r)) ≡ tablesOf s .target q r
-    target-is =
-        subst (λ (t : Tables). branch (byte s (targetPlace j q r)) ≡ t .target q r) (tables-are s j opened) (rw (lt-ltb _ _ q<, lt-ltb _ _ r<))
+      -- Target 255 is no branch.
+      pub no-target : byte s (at + 1 + r) ≡ 255 → none ≡ tablesOf s .target q r
+      no-target is = sym (rw (eq-eqb _ _ is)) ∙ target-is
 
-    pub no-target : byte s (targetPlace j q r) ≡ 255 → none ≡ tablesOf s .target q r
-    no-target e = sym (rw (eq-eqb _ _ e)) ∙ target-is
+      -- Any other is a branch to the program state of that number.
+      pub some-target : ¬ (byte s (at + 1 + r) ≡ 255) → some (programState (byte s (at + 1 + r))) ≡ tablesOf s .target q r
+      some-target other = sym (rw (ne-eqb _ _ other)) ∙ target-is
 
-    pub some-target : (byte s (targetPlace j q r) ≡ 255 → ⊥) →
-        some (programState (byte s (targetPlace j q r))) ≡ tablesOf s .target q r
-    some-target e = sym (rw (ne-eqb _ _ e)) ∙ target-is
+-- A world state that is not below W is no start.
+pub no-start : (s : List ℕ) {j : Job} → Opened s j → (w : WorldState) → j .worlds ≤ w .0 → false ≡ tablesOf s .start w
+no-start s {j} opened w out = subst (λ (t : Tables). false ≡ t .start w) (tables-are s j opened) (rw (le-ltb _ _ out))

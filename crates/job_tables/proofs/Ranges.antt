@@ -7,15 +7,24 @@ use Rattle.plans.specs.Plan.{Action, Result}
 use Rattle.lamp_line.specs.declared.ProgramState.{ProgramState}
 use Rattle.lamp_line.specs.declared.WorldState.{WorldState}
 use Rattle.lamp_line.specs.Lists.{_∈_}
-use Rattle.lamp_line.specs.Tables.{Outcome, outcome, Tables, WellFormed}
+use Rattle.lamp_line.specs.Tables.{Outcome, outcome}
+use Rattle.lamp_line.specs.inner.WellFormed.{WellFormed}
 use Rattle.job_layout.specs.declared.Job.{Job}
 use Rattle.job_layout.specs.JobTables.{tablesOf}
+use Rattle.job_layout.specs.inner.Laid.{Laid}
 use Rattle.job_file.specs.Reading.{Opened}
 use Rattle.job_file.proofs.WellFormed.{sound}
+use Rattle.job_tables.specs.declared.Cell.{Cell}
+use Rattle.job_tables.specs.declared.Cell.the-variants.{Legal}
+use Rattle.job_tables.specs.inner.Entries.{outcomesOf}
 
-first-in : (x : Outcome) (l more : List Outcome) → l ≡ x ∷ more → x ∈ l
+-- The file is laid out as it must be.
+pub laid-out : (s : List ℕ) (j : Job) → Opened s j → Laid s j
+laid-out s j opened = sound s j opened .laid
+
+first-in : (x : Outcome) → x ∈ (x ∷ [])
 unfolding _∈_
-first-in x l more e = subst (λ (k : List Outcome). x ∈ k) (sym e) (inl refl)
+first-in x = inl refl
 
 module _ (s : List ℕ) (j : Job) (opened : Opened s j) where
   -- The numbers of the tables are those of the job.
@@ -34,10 +43,11 @@ module _ (s : List ℕ) (j : Job) (opened : Opened s j) where
   pub first-is : j .first ≡ tablesOf s .first
   first-is = ap (λ (h : Job). h .first) (sound s j opened .is-head)
 
+  -- The tables are well formed.
   pub well-formed : WellFormed (tablesOf s)
   well-formed = sound s j opened .well-formed
 
-  -- The action of a program state that is not final.
+  -- The action of a program state that is not final is below A.
   pub action-below : (q : ProgramState) (a : Action) → q .0 < j .states → a ≡ tablesOf s .action q → a < j .actions
   action-below q a q< e =
       rw e (subst (λ (n : ℕ). tablesOf s .action q < n) (sym actions-are)
@@ -46,8 +56,9 @@ module _ (s : List ℕ) (j : Job) (opened : Opened s j) where
       actions-are : j .actions ≡ tablesOf s .actions
       actions-are = ap (λ (h : Job). h .actions) (sound s j opened .is-head)
 
-  -- The result of a cell.
-  module _ (a : Action) (w w′ : WorldState) (c : ℕ) (r : Result) (legal : tablesOf s .cell a w c ≡ outcome w′ r ∷ []) where
-    pub result-below : r < j .results
-    result-below =
-        rw results-are (well-formed .result-range a w w′ c r (first-in (outcome w′ r) (tablesOf s .cell a w c) [] legal))
+  -- The result of a legal cell is below R.
+  pub result-below :
+      (a : Action) (w : WorldState) (c : ℕ) {cell : Cell} {w′ : WorldState} {r : Result} →
+      outcomesOf cell ≡ tablesOf s .cell a w c → cell ≡ Legal w′ r → r < j .results
+  result-below a w c {w′ = w′} {r = r} read legal =
+      rw results-are (well-formed .result-range a w w′ c r (rw (← read, legal) (first-in (outcome w′ r))))

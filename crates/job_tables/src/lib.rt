@@ -1,13 +1,13 @@
-// Reading of the tables of a job file that is not refused: mark, cell, start, goal, action and target.
+// Reads the tables of a job file that is not refused: marks, cells, starts, goal, and the actions and targets of the plan.
 //
-// These functions are for the crates above and not for users: each asks for the job that the reader answered for this very file,
-// and for numbers within the table.
+// These functions are for the crates above and not for users: each asks for the job that the reader answered for this file, and
+// for numbers within the table.
 ghost use mathlib.Core.Path.{_≡_};
 ghost use Prim.Native.Nat.{_<_};
 ghost use Rattle.lamp_line.specs.Tables.{movesOn, columns};
 ghost use Rattle.job_layout.specs.JobTables.{tablesOf};
 ghost use Rattle.job_file.specs.Reading.{Opened};
-ghost use Rattle.job_tables.specs.Entries.{outcomesOf, targetOf};
+ghost use Rattle.job_tables.specs.inner.Entries.{outcomesOf, targetOf};
 use job_layout::Job;
 use job_layout::places::action_place;
 use job_layout::places::goal_place;
@@ -17,7 +17,7 @@ use job_layout::places::start_place;
 use lamp_line::ProgramState;
 use lamp_line::WorldState;
 
-// A cell: not legal, or the next world state and the sensed result.
+// A cell: the action is not legal there, or it leads to a world state and senses a result.
 pub enum Cell {
     NotLegal,
     Legal(WorldState, u8),
@@ -38,6 +38,7 @@ pub fn moves_on(file: &[u8], job: Job, action: u8) -> bool
     file[at] == 1
 }
 
+// The cell of an action in a world state, at a column.
 pub fn read_cell(file: &[u8], job: Job, action: u8, world: WorldState, column: u8) -> Cell
     requires { ⌜ Opened (now file) job × (action < job .actions) × (world .0 < job .worlds) × (column < columns (job .kinds)) ⌝ }
     ensures { λ r. ⌜ outcomesOf r ≡ tablesOf (now (file .entry)) .cell action world column ⌝ }
@@ -62,6 +63,7 @@ pub fn is_start(file: &[u8], job: Job, world: WorldState) -> bool
     file[at] == 1
 }
 
+// The goal is true in a world state, at a column.
 pub fn is_goal(file: &[u8], job: Job, world: WorldState, column: u8) -> bool
     requires { ⌜ Opened (now file) job × (world .0 < job .worlds) × (column < columns (job .kinds)) ⌝ }
     ensures { λ r. ⌜ r ≡ tablesOf (now (file .entry)) .goal world column ⌝ }
@@ -70,6 +72,7 @@ pub fn is_goal(file: &[u8], job: Job, world: WorldState, column: u8) -> bool
     file[at] == 1
 }
 
+// The action of a program state that is not final.
 pub fn plan_action(file: &[u8], job: Job, state: ProgramState) -> u8
     requires { ⌜ Opened (now file) job × (state .0 < job .states) ⌝ }
     ensures { λ r. ⌜ r ≡ tablesOf (now (file .entry)) .action state ⌝ }
@@ -78,6 +81,7 @@ pub fn plan_action(file: &[u8], job: Job, state: ProgramState) -> u8
     file[at]
 }
 
+// The branch of a program state that is not final, for a result.
 pub fn plan_target(file: &[u8], job: Job, state: ProgramState, result: u8) -> Target
     requires { ⌜ Opened (now file) job × (state .0 < job .states) × (result < job .results) ⌝ }
     ensures { λ r. ⌜ targetOf r ≡ tablesOf (now (file .entry)) .target state result ⌝ }

@@ -5,31 +5,34 @@ use Prim.Native.Nat.{ℕ, _+_, _≤_, _<_}
 use native.Mathlib.Decide.{decLt}
 use native.Mathlib.Omega.{arith}
 use lib.ListN.{getD, replicate, getD-replicate, length-replicate, List·getD-eq-default}
-use Rattle.lamp_line.specs.Tables.{Tables, WellFormed, columns}
+use Rattle.lamp_line.specs.Tables.{Tables, columns}
+use Rattle.lamp_line.specs.inner.WellFormed.{WellFormed}
 use Rattle.lamp_line.proofs.Products.{product-le}
-use Rattle.lamp_fates.specs.Memory.{pairs, entries, Memory}
+use Rattle.lamp_fates.specs.inner.Memory.{memorySize, Memory}
+use Rattle.run_laws.specs.inner.Pairs.{pairs}
 
-blank : (n i : ℕ) → _≡_ {A = ℕ} (getD (replicate n 0) i 0) 0
+-- An entry of a list of zeros is 0.
+blank : (n i : ℕ) → getD (replicate {A = ℕ} n 0) i 0 ≡ 0
 blank n i = go (decLt i n)
   where
-    go : Dec (i < n) → _≡_ {A = ℕ} (getD (replicate n 0) i 0) 0
+    go : Dec (i < n) → getD (replicate {A = ℕ} n 0) i 0 ≡ 0
     go (yes h) = getD-replicate n i 0 0 h
     go (no h) = List·getD-eq-default (replicate n 0) 0 {n = i} (omega (arith, length-replicate {A = ℕ} n 0))
 
--- So many zeros are a memory, if they are enough.
-pub blank-memory : (t : Tables) (n : ℕ) → entries t ≤ n → Memory t (replicate n 0)
+-- A list of zeros is a memory, if it is long enough.
+pub blank-memory : (t : Tables) (n : ℕ) → memorySize t ≤ n → Memory t (replicate n 0)
 blank-memory t n enough =
     record {
       room = omega (arith, length-replicate {A = ℕ} n 0);
       unknown-or-right = λ p column range c<. inl (blank n _);
     }
 
--- At most 65 times 64 pairs.
+-- There are at most 65 times 64 pairs.
 pub pairs-most : {t : Tables} → WellFormed t → pairs t ≤ 4160
 pairs-most {t} wf =
     product-le 65 64 (t .states + 1) (t .worlds) (omega (arith, wf .states-range)) (wf .worlds-range .1)
 
--- And that at 16 columns.
-pub entries-most : {t : Tables} → WellFormed t → entries t ≤ 66560
+-- There are at most 16 columns, each with an entry for every pair.
+pub entries-most : {t : Tables} → WellFormed t → memorySize t ≤ 66560
 unfolding columns
 entries-most {t} wf = product-le 16 4160 (columns (t .kinds)) (pairs t) (omega (arith, wf .kinds-range .1)) (pairs-most wf)

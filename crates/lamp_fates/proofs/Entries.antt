@@ -1,19 +1,21 @@
--- Entries as numbers: that of a fate is below the links, and the fate is read off it.
-use mathlib.Core.Path.{_≡_, refl, ap₂}
+-- Entries as numbers: the entry of a fate is no link, and the fate can be read off it.
+use mathlib.Core.Path.{_≡_, refl, ap₂, _∙_}
+use mathlib.Core.Logic.{_≢_}
 use Prim.Native.Nat.{ℕ, _+_, _-_, _/_, _%_, _≤_, _<_}
 use native.Mathlib.Omega.{arith}
-use borrow.Author.Tests.{ne-eqb, le-ltb}
+use borrow.Author.Tests.{ne-eqb, lt-ltb, le-ltb}
 use lib.Arith.{digits-div, digits-mod}
 use Rattle.lamp_line.specs.declared.FailureKind.{FailureKind}
 use Rattle.lamp_line.specs.declared.FailureKind.the-variants.{NotLegal, NoBranch, Circles, GoalFalse}
 use Rattle.lamp_line.specs.declared.Ending.the-variants.{Goal, Failure}
-use Rattle.lamp_line.specs.Tables.{Tables, WellFormed, programState, worldState}
+use Rattle.lamp_line.specs.Tables.{Tables, programState, worldState}
+use Rattle.lamp_line.specs.inner.WellFormed.{WellFormed}
 use Rattle.lamp_line.specs.Endings.{kindNumber}
 use Rattle.lamp_line.specs.Run.{Pair, pair, Walk, ended, arrived, lampWalk}
-use Rattle.run_laws.specs.Pairs.{InRange}
+use Rattle.run_laws.specs.inner.Pairs.{InRange}
 use Rattle.run_laws.proofs.Walks.{arrived-in-range}
-use Rattle.fate_laws.specs.Fates.{uncounted}
-use Rattle.lamp_fates.specs.Memory.{pairCode, fateEntry, fateFrom}
+use Rattle.fate_laws.specs.inner.Fates.{uncounted}
+use Rattle.lamp_fates.specs.inner.Memory.{pairCode, fateEntry, fateFrom}
 
 -- The entry of a walk does not depend on the steps that it counts.
 pub entry-uncounted : (v : Walk) → fateEntry (uncounted v) ≡ fateEntry v
@@ -27,20 +29,27 @@ pair-from-code p w< =
     ap₂ (λ q w. pair (programState q) (worldState w)) (digits-div (p .state .0) {m = 64} {r = p .world .0} w<)
     (digits-mod (p .state .0) {m = 64} {r = p .world .0} w<)
 
--- The fate is read off the entry of an arrival, which is none of those of endings.
-from-arrival : (p : Pair) (k : ℕ) → p .world .0 < 64 → fateFrom (fateEntry (arrived p k)) ≡ arrived p 0
-from-arrival p k w< =
-    let v = 16 + pairCode p in
-    let code : v - 16 ≡ pairCode p = omega arith in
+-- An entry from 16 on stands for an arrival.
+pub from-arrivals :
+    (v : ℕ) → 16 ≤ v → fateFrom v ≡ arrived (pair (programState ((v - 16) / 64)) (worldState ((v - 16) % 64))) 0
+from-arrivals v v≥ =
     rw (
       ne-eqb v 1 (λ e. omega arith),
       ne-eqb v 2 (λ e. omega arith),
       ne-eqb v 3 (λ e. omega arith),
       ne-eqb v 4 (λ e. omega arith),
-      le-ltb v 16 (omega arith),
-      code,
-      pair-from-code p w<,
+      le-ltb v 16 v≥,
     )
+
+-- An entry below 16 that is none of 1 to 4 stands for failure 4.
+pub from-goal-false : (v : ℕ) → v ≢ 1 → v ≢ 2 → v ≢ 3 → v ≢ 4 → v < 16 → ended (Failure GoalFalse) 0 ≡ fateFrom v
+from-goal-false v e₁ e₂ e₃ e₄ v< = rw (ne-eqb v 1 e₁, ne-eqb v 2 e₂, ne-eqb v 3 e₃, ne-eqb v 4 e₄, lt-ltb v 16 v<)
+
+-- The fate is read off the entry of an arrival.
+from-arrival : (p : Pair) (k : ℕ) → p .world .0 < 64 → fateFrom (fateEntry (arrived p k)) ≡ arrived p 0
+from-arrival p k w< =
+    let code : 16 + pairCode p - 16 ≡ pairCode p = omega arith in
+    from-arrivals (16 + pairCode p) (omega arith) ∙ rw (code, pair-from-code p w<)
 
 kind-small : (kind : FailureKind) → kindNumber kind ≤ 4
 kind-small NotLegal = omega arith
@@ -49,7 +58,7 @@ kind-small Circles = omega arith
 kind-small GoalFalse = omega arith
 
 module _ (t : Tables) (wf : WellFormed t) where
-  -- The code of a pair of the tables.
+  -- The code of a pair of the tables is small.
   code-small : (p : Pair) → InRange t p → pairCode p < 4160
   code-small p range = omega (arith, range .state-range, range .world-range, wf .states-range, wf .worlds-range .1)
 

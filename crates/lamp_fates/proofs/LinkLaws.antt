@@ -1,4 +1,4 @@
--- The links of a walk when an entry is stored: one more link, at the pair that the walk is at, or the entry of the fate in the
+-- The links of a walk when an entry is stored: one more link, at the pair that the walk has reached, or the entry of the fate in
 -- place of the first link.
 use mathlib.Core.Path.{_≡_, refl, sym, ap, subst, _∙_}
 use mathlib.Core.Logic.{inl, inr}
@@ -9,12 +9,12 @@ use native.Mathlib.Omega.{arith}
 use lib.ListN.{set, length-set}
 use Rattle.lamp_line.specs.Tables.{Tables}
 use Rattle.lamp_line.specs.Run.{Pair, Walk, lampWalk}
-use Rattle.run_laws.specs.Pairs.{InRange, pairNumber}
-use Rattle.fate_laws.specs.Fates.{uncounted}
+use Rattle.run_laws.specs.inner.Pairs.{InRange, pairNumber}
+use Rattle.fate_laws.specs.inner.Fates.{uncounted}
 use Rattle.fate_laws.proofs.Stretches.{stays-within}
 use Rattle.fate_laws.proofs.StepFates.{stays-fate}
-use Rattle.lamp_fates.specs.Memory.{fateEntry, entryPlace, entryOf}
-use Rattle.lamp_fates.specs.Links.{Asked, After, Link, OnTheWay, Stands, Linked}
+use Rattle.lamp_fates.specs.inner.Memory.{fateEntry, entryPlace, remembered}
+use Rattle.lamp_fates.specs.inner.Links.{Asked, After, Link, OnTheWay, Stands, Linked}
 use Rattle.lamp_fates.proofs.Entries.{entry-uncounted}
 use Rattle.lamp_fates.proofs.Places.{stored}
 
@@ -23,18 +23,18 @@ module _ {t : Tables} {first : Pair} {column : ℕ} (asked : Asked t first colum
   pub within : (i : ℕ) {p : Pair} → After t first column i p → InRange t p
   within i {p} = stays-within t (asked .well-formed) column i first p (asked .in-range)
 
-  -- The entry of what the walk comes to is that of the first pair's fate.
+  -- If v is the first pair's fate, the entry of v is the entry of that fate.
   pub told : {v : Walk} → uncounted (lampWalk t first column) ≡ v → fateEntry v ≡ fateEntry (lampWalk t first column)
   told e = ap fateEntry (sym e) ∙ entry-uncounted (lampWalk t first column)
 
-  -- All pairs of the walk have one fate.
+  -- All pairs of the walk have the same fate.
   pub same-fate :
       (i : ℕ) {p : Pair} → After t first column i p → fateEntry (lampWalk t p column) ≡ fateEntry (lampWalk t first column)
   same-fate i {p} after =
       sym (entry-uncounted (lampWalk t p column))
       ∙ told (stays-fate t (asked .well-formed) column i first p (asked .in-range) after)
 
-  -- As many actions lead to one pair.
+  -- The same number of actions leads to the same pair.
   one-pair : {i k : ℕ} {p q : Pair} → After t first column i q → After t first column k p → i ≡ k → q ≡ p
   one-pair {q = q} at-q at-p same =
       let here = subst (λ i. After t first column i q) same at-q in
@@ -42,14 +42,14 @@ module _ {t : Tables} {first : Pair} {column : ℕ} (asked : Asked t first colum
 
   -- ---- one more link
 
-  -- The walk has come to p after k actions, and there is no entry yet.
+  -- The walk has reached p after k actions, and p has no entry yet.
   module _
       {memory : List ℕ} {k : ℕ} {p : Pair} (links : Linked t first column 0 k memory) (after : After t first column k p)
-      (none : entryOf t memory p column ≡ 0) where
-    -- No pair before it is p, since those have links.
+      (none : remembered t memory p column ≡ 0) where
+    -- No earlier pair is p, since each of them has a link.
     not-before : (i : ℕ) {q : Pair} → After t first column i q → i < k → ¬ (q ≡ p)
     not-before i {q} at-q i< same =
-        omega (arith, links .link i q (omega arith) i< at-q .names, ap (λ q. entryOf t memory q column) same)
+        omega (arith, links .link i q (omega arith) i< at-q .names, ap (λ q. remembered t memory q column) same)
 
     -- Of the pairs up to here, p is the last.
     last-of-all : (i : ℕ) {q : Pair} → After t first column i q → i < k + 1 → q ≡ p → i ≡ k
@@ -79,7 +79,7 @@ module _ {t : Tables} {first : Pair} {column : ℕ} (asked : Asked t first colum
         inr (record {
           here = way .here;
           actions = way .actions;
-          behind = way .behind;
+          not-earlier = way .not-earlier;
           before = omega (arith, way .before);
           after = way .after;
         })
@@ -109,9 +109,9 @@ module _ {t : Tables} {first : Pair} {column : ℕ} (asked : Asked t first colum
 
         on-the-way : {q : Pair} {at : ℕ} → q ≡ p → at ≡ column → OnTheWay t first column 0 (k + 1) q at
         on-the-way same here =
-            record { here = here; actions = k; behind = omega arith; before = omega arith; after = rw same after }
+            record { here = here; actions = k; not-earlier = omega arith; before = omega arith; after = rw same after }
 
-  -- ---- one link less
+  -- ---- one link fewer
 
   -- The first link is that of p.
   module _
@@ -125,14 +125,14 @@ module _ {t : Tables} {first : Pair} {column : ℕ} (asked : Asked t first colum
         inr (record {
           here = way .here;
           actions = way .actions;
-          behind = later (ℕ-discrete (way .actions) from);
+          not-earlier = later (ℕ-discrete (way .actions) from);
           before = way .before;
           after = way .after;
         })
       where
         later : Dec (way .actions ≡ from) → from + 1 ≤ way .actions
         later (yes same) = absurd (other (one-pair (way .after) after same, way .here))
-        later (no differs) = omega (arith, way .behind)
+        later (no differs) = omega (arith, way .not-earlier)
 
     -- The entry of the fate is written at p.
     pub fate-written :

@@ -1,4 +1,4 @@
--- How many numbers of a list have a property. A loop that takes the property from one of them at each turn ends.
+-- Counts the numbers of a list that have a property. A loop ends if each turn takes the property from one of them.
 use mathlib.Core.Path.{_≡_}
 use mathlib.Core.Bool.{Bool, true, false, cond}
 use mathlib.Core.List.{List, [], _∷_}
@@ -6,11 +6,12 @@ use Prim.Native.Nat.{ℕ, zero, suc, _+_, _<_}
 use native.Mathlib.Omega.{arith}
 use lib.ListN.{length, getD, set}
 
+-- How many numbers of the list have the property.
 unfoldable pub tally : (ℕ → Bool) → List ℕ → ℕ
 tally has [] = 0
 tally has (x ∷ l) = cond (has x) 1 0 + tally has l
 
--- A number that has the property is replaced by one that does not.
+-- If a number that has the property is replaced by one that does not, the count falls.
 pub tally-falls :
     (has : ℕ → Bool) (l : List ℕ) (i v : ℕ) → i < length l → has (getD l i 0) ≡ true → has v ≡ false →
     tally has (set l i v) < tally has l

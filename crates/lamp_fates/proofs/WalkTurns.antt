@@ -1,85 +1,71 @@
--- The loop of the walk, which leaves links: where it stands, what it answers, and that each turn leaves one entry less unknown. A
+-- The loop of the walk, which leaves links: its invariant, what it answers, and that each turn leaves one unknown entry fewer. A
 -- link that it meets is its own, so it circles.
 use mathlib.Core.Path.{_≡_, refl, sym, ap, _∙_}
 use mathlib.Core.Logic.{_≢_, inl, inr}
 use mathlib.Core.List.{List}
-use Prim.Native.Nat.{ℕ, _+_, _≤_, _<_}
+use Prim.Native.Nat.{ℕ, _+_, _*_, _≤_, _<_}
 use native.Mathlib.Omega.{arith}
 use borrow.Author.Tests.{eq-eqb, ne-eqb}
 use lib.Dec.{eqb}
-use lib.ListN.{length, getD, set}
+use mir.Syntax.{w64}
+use mir.Val.{Fits}
+use lib.ListN.{length, getD, set, length-set}
+use Rattle.lamp_line.specs.declared.ProgramState.{ProgramState}
+use Rattle.lamp_line.specs.declared.WorldState.{WorldState}
 use Rattle.lamp_line.specs.declared.FailureKind.the-variants.{Circles}
 use Rattle.lamp_line.specs.declared.Ending.{Ending}
 use Rattle.lamp_line.specs.declared.Ending.the-variants.{Failure}
 use Rattle.lamp_line.specs.Tables.{Tables, columns}
-use Rattle.lamp_line.specs.declared.WorldState.{WorldState}
-use Rattle.lamp_line.specs.Run.{Pair, ends, stays, passes, ended, judged, act, lampWalk}
-use Rattle.run_laws.specs.Pairs.{InRange, pairNumber}
+use Rattle.lamp_line.specs.Run.{Pair, pair, ends, ended, judged, act, lampWalk}
+use Rattle.run_laws.specs.inner.Pairs.{InRange, pairNumber}
 use Rattle.run_laws.proofs.Actions.{act-final}
 use Rattle.job_layout.specs.declared.Job.{Job}
 use Rattle.job_layout.specs.JobTables.{tablesBy, tablesOf}
 use Rattle.job_file.specs.Reading.{Opened}
 use Rattle.job_file.proofs.WellFormed.{tables-are, well-formed-by}
-use Rattle.lamp_walk.specs.declared.Move.{Move}
-use Rattle.lamp_walk.specs.WalkAnswers.{moveOf}
-use Rattle.fate_laws.specs.Stretches.{far}
-use Rattle.fate_laws.proofs.Stretches.{far-more}
+use Rattle.lamp_walk.specs.declared.Acted.{Acted}
+use Rattle.lamp_walk.specs.declared.Acted.the-variants as move
+use Rattle.lamp_walk.specs.inner.Walking.{moveOf}
+use Rattle.fate_laws.specs.inner.Stretches.{stretch}
+use Rattle.fate_laws.proofs.Stretches.{stretch-more}
 use Rattle.fate_laws.proofs.StepFates.{ends-fate, passes-fate, circle-fate}
-use Rattle.lamp_fates.specs.Memory.{pairCode, fateEntry, entryPlace, entryOf, Memory}
-use Rattle.lamp_fates.specs.Links.{Asked, After, Stands, Linked, WalkedTo}
-use Rattle.lamp_fates.proofs.BlankMemory.{pairs-most}
+use Rattle.lamp_fates.specs.inner.Memory.{pairCode, fateEntry, entryPlace, remembered, Memory}
+use Rattle.lamp_fates.specs.inner.Links.{Asked, After, Stands, Linked, WalkedTo}
+use Rattle.lamp_fates.proofs.BlankMemory.{pairs-most, entries-most}
 use Rattle.lamp_fates.proofs.Entries.{fate-below}
 use Rattle.lamp_fates.proofs.LinkLaws.{within, told, same-fate, link-left}
-use Rattle.lamp_fates.proofs.Places.{number-in, place-in}
+use Rattle.lamp_fates.proofs.Places.{place-below, place-in}
+use Rattle.run_laws.proofs.Pairs.{pair-number-in}
 use Rattle.lamp_fates.proofs.Tally.{tally, tally-falls}
 
--- The walk from the first pair is at p, and has left links at all pairs before it.
-pub record Walking (t : Tables) (first : Pair) (column : ℕ) (memory : List ℕ) (p : Pair) : Type 0 where
-  pub asked : Asked t first column
+-- The walk from the first pair is at p, and has left links at all pairs before it. Its tables are those by the job that the reader
+-- answered for the file.
+pub record LeavingLinks (s : List ℕ) (j : Job) (first : Pair) (column : ℕ) (memory₀ memory : List ℕ) (p : Pair) : Type 0 where
+  pub opened : Opened s j
+  pub same-length : length memory ≡ length memory₀
+  pub asked : Asked (tablesBy s j) first column
+  pub in-range : InRange (tablesBy s j) p
   pub actions : ℕ
-  pub after : After t first column actions p
-  pub links : Linked t first column 0 actions memory
+  pub after : After (tablesBy s j) first column actions p
+  pub links : Linked (tablesBy s j) first column 0 actions memory
 
 -- How many entries are unknown.
 abbrev pub unknown : List ℕ → ℕ
 unknown memory = tally (λ v. eqb v 0) memory
 
--- There is one less once a link is left in its place.
-pub unknown-falls :
-    (memory : List ℕ) (place v : ℕ) → place < length memory → getD memory place 0 ≡ 0 → v ≢ 0 →
-    unknown (set memory place v) < unknown memory
-unknown-falls memory place v place< old new = tally-falls (λ v. eqb v 0) memory place v place< (eq-eqb _ _ old) (ne-eqb _ _ new)
-
--- ---- the tables by the job that the reader answered for the file
-
-module _ (s : List ℕ) (j : Job) (opened : Opened s j) where
-  -- They are well-formed.
-  pub asked-by :
-      {first : Pair} {column : ℕ} → InRange (tablesBy s j) first → column < columns (j .kinds) → Asked (tablesBy s j) first column
-  asked-by in-range column-in = record { well-formed = well-formed-by s j opened; in-range = in-range; column-in = column-in }
-
-  -- What was answered of an action in the file's tables is what it comes to in these.
-  pub acts-by :
-      (p : Pair) (column : ℕ) {step found : Move} → moveOf step ≡ act (tablesOf s) p column → step ≡ found →
-      act (tablesBy s j) p column ≡ moveOf found
-  acts-by p column acts is = rw (tables-are s j opened) (sym acts ∙ ap moveOf is)
-
-  -- And so is what was answered of the final state.
-  pub judged-by :
-      (w : WorldState) (column : ℕ) {r : ℕ} {x : Ending} → r ≡ fateEntry (ended x 0) → x ≡ judged (tablesOf s) w column →
-      r ≡ fateEntry (ended (judged (tablesBy s j) w column) 0)
-  judged-by w column e is = e ∙ ap (λ (y : Ending). fateEntry (ended y 0)) (is ∙ ap (λ (t : Tables). judged t w column) (sym (tables-are s j opened)))
-
--- ---- the walk
-
-module _ {t : Tables} {first : Pair} {column : ℕ} {memory : List ℕ} where
+module _ {s : List ℕ} {j : Job} {first : Pair} {column : ℕ} where
   -- The walk begins.
-  pub walking-starts : Asked t first column → Memory t memory → Walking t first column memory first
-  walking-starts asked known =
+  pub leaving-starts :
+      {memory : List ℕ} → Opened s j → Memory (tablesBy s j) memory → InRange (tablesBy s j) first → column < columns (j .kinds) →
+      LeavingLinks s j first column memory memory first
+  leaving-starts opened known in-range column-in =
       record {
-        asked = asked;
+        opened = opened;
+        same-length = refl;
+        asked = record { well-formed = well-formed-by s j opened; in-range = in-range; column-in = column-in };
+        in-range = in-range;
         actions = 0;
-        after = unfold far in refl;
+        after = unfold stretch in refl;
         links =
             record {
               room = known .room;
@@ -89,99 +75,131 @@ module _ {t : Tables} {first : Pair} {column : ℕ} {memory : List ℕ} where
             };
       }
 
-  module _ {p : Pair} (walking : Walking t first column memory p) where
+  module _ {memory₀ memory : List ℕ} {p : Pair} (walk : LeavingLinks s j first column memory₀ memory p) where
+    abbrev t : Tables
+    t = tablesBy s j
+
     asked : Asked t first column
-    asked = walking .asked
+    asked = walk .asked
 
-    -- The pair that it is at is one of the tables, and has a place in the memory.
-    pub walking-within : InRange t p
-    walking-within = within asked (walking .actions) (walking .after)
-
-    -- The walk has come to the fate.
+    -- The walk has found the fate.
     walked : {r : ℕ} → r ≡ fateEntry (lampWalk t first column) → WalkedTo t first column r memory
-    walked right = record { asked = asked; is-fate = right; actions = walking .actions; links = walking .links }
+    walked right = record { asked = asked; is-fate = right; actions = walk .actions; links = walk .links }
 
-    -- The action ends the run.
-    pub walked-ends :
-        {r : ℕ} {x : Ending} → r ≡ fateEntry (ended x 0) → act t p column ≡ ends x → WalkedTo t first column r memory
-    walked-ends {x = x} e acts =
-        let end = far-more t column (walking .actions) first p (ends x) (walking .after) acts in
-        walked (e ∙ told asked (ends-fate t (asked .well-formed) column (walking .actions + 1) first x (asked .in-range) end))
+    -- ---- the action that was made
 
-    -- It passes the lamp.
-    pub walked-passes :
-        {r : ℕ} {p′ : Pair} → r ≡ 16 + pairCode p′ → act t p column ≡ passes p′ → WalkedTo t first column r memory
-    walked-passes {p′ = p′} e acts =
-        let end = far-more t column (walking .actions) first p (passes p′) (walking .after) acts in
-        walked (e ∙ told asked (passes-fate t (asked .well-formed) column (walking .actions + 1) first p′ (asked .in-range) end))
+    module _ (step : Acted) (acts : moveOf step ≡ act (tablesOf s) p column) where
+      -- It is the next action of the walk, in the tables of the walk.
+      leads-on : {found : Acted} → step ≡ found → stretch t column (walk .actions + 1) first ≡ moveOf found
+      leads-on {found} is =
+          stretch-more t column (walk .actions) first p (moveOf found) (walk .after)
+          (rw (tables-are s j (walk .opened)) (sym acts ∙ ap moveOf is))
 
-    -- It stays, and leads to the final state: the goal decides.
-    pub walked-final :
-        {r : ℕ} {p′ : Pair} → p′ .state .0 ≡ t .states → r ≡ fateEntry (ended (judged t (p′ .world) column) 0) →
-        act t p column ≡ stays p′ → WalkedTo t first column r memory
-    walked-final {p′ = p′} final e acts =
-        let x = judged t (p′ .world) column in
-        let next = far-more t column (walking .actions) first p (stays p′) (walking .after) acts in
-        let end = far-more t column (walking .actions + 1) first p′ (ends x) next (act-final t p′ column (eq-eqb _ _ final)) in
-        walked (e ∙ told asked (ends-fate t (asked .well-formed) column (walking .actions + 1 + 1) first x (asked .in-range) end))
+      -- It ends the run.
+      pub walked-ends : {r : ℕ} {x : Ending} → step ≡ move.Ends x → r ≡ fateEntry (ended x 0) → WalkedTo t first column r memory
+      walked-ends {x = x} is e =
+          walked (e ∙ told asked (ends-fate t (asked .well-formed) column (walk .actions + 1) first x (asked .in-range) (leads-on is)))
 
-    -- It stays: the pair it leads to is one of the tables.
-    pub next-within : {p′ : Pair} → act t p column ≡ stays p′ → InRange t p′
-    next-within {p′ = p′} acts =
-        within asked (walking .actions + 1) (far-more t column (walking .actions) first p (stays p′) (walking .after) acts)
+      module _ {q : ProgramState} {w : WorldState} where
+        -- It passes the lamp.
+        pub walked-passes : {n : ℕ} → step ≡ move.Passes q w → n ≡ pairCode (pair q w) → WalkedTo t first column (16 + n) memory
+        walked-passes is e =
+            walked (ap (_+_ 16) e
+            ∙ told asked
+            (passes-fate t (asked .well-formed) column (walk .actions + 1) first (pair q w) (asked .in-range) (leads-on is)))
 
-    -- It stays: the pair has a small number, so that a link can name it.
-    pub next-small : {number : ℕ} {p′ : Pair} → number ≡ pairNumber (t .worlds) p′ → act t p column ≡ stays p′ → number < 4160
-    next-small {p′ = p′} e acts =
-        let next = far-more t column (walking .actions) first p (stays p′) (walking .after) acts in
-        omega (arith, e, number-in t p′ (within asked (walking .actions + 1) next), pairs-most (asked .well-formed))
+        -- It stays.
+        module _ (is : step ≡ move.Stays q w) where
+          -- The pair that it leads to is one of the tables.
+          next-within : InRange t (pair q w)
+          next-within = within asked (walk .actions + 1) (leads-on is)
 
-    -- What is known of the entry of the pair.
-    standing : Stands t first column 0 (walking .actions) p column (entryOf t memory p column)
-    standing = walking .links .others p column walking-within (asked .column-in)
+          -- So its world state is one of the job's.
+          pub next-world-within : w .0 < j .worlds
+          next-world-within = next-within .world-range
+
+          -- It has a small number, so that a link can name it.
+          pub next-small : {number : ℕ} → number ≡ pairNumber (j .worlds) (pair q w) → number < 4160
+          next-small e = omega (arith, e, pair-number-in t (pair q w) next-within, pairs-most (asked .well-formed))
+
+          -- It leads to the final state: the goal decides.
+          pub walked-final :
+              {r : ℕ} {x : Ending} → q .0 ≡ j .states → x ≡ judged (tablesOf s) w column → r ≡ fateEntry (ended x 0) →
+              WalkedTo t first column r memory
+          walked-final {x = x} final judges e =
+              let goal : judged (tablesOf s) w column ≡ judged t w column =
+              ap (λ (u : Tables). judged u w column) (sym (tables-are s j (walk .opened))) in
+              let end =
+              stretch-more t column (walk .actions + 1) first (pair q w) (ends (judged t w column)) (leads-on is)
+              (act-final t (pair q w) column (eq-eqb _ _ final)) in
+              walked (e ∙ ap (λ (y : Ending). fateEntry (ended y 0)) (judges ∙ goal)
+              ∙ told asked (ends-fate t (asked .well-formed) column (walk .actions + 1 + 1) first _ (asked .in-range) end))
+
+    -- ---- the entry of the pair
+
+    -- What is known of it.
+    standing : Stands t first column 0 (walk .actions) p column (remembered t memory p column)
+    standing = walk .links .others p column (walk .in-range) (asked .column-in)
 
     module _ {place : ℕ} (at : place ≡ entryPlace t p column) where
-      pub walking-place : place < length memory
-      walking-place = rw at (place-in t p column walking-within (asked .column-in) memory (walking .links .room))
+      -- Its place is within the memory.
+      pub leaving-place : place < length memory
+      leaving-place = rw at (place-in t p column (walk .in-range) (asked .column-in) memory (walk .links .room))
 
-      -- The entry is known, and no link.
+      -- Its offset in bytes fits 64 bits.
+      pub leaving-fits : Fits w64 (place * 2)
+      leaving-fits =
+          omega (arith, at, place-below t p column (walk .in-range) (asked .column-in), entries-most (asked .well-formed))
+
+      -- The entry is known, and it is no link: it is that of the fate.
       pub walked-known :
           getD memory place 0 ≢ 0 → getD memory place 0 < 8192 → WalkedTo t first column (getD memory place 0) memory
       walked-known some small = walked (rw at (by standing (rw at at some) (rw at at small)))
         where
           by :
-              Stands t first column 0 (walking .actions) p column (entryOf t memory p column) →
-              entryOf t memory p column ≢ 0 → entryOf t memory p column < 8192 →
-              entryOf t memory p column ≡ fateEntry (lampWalk t first column)
+              Stands t first column 0 (walk .actions) p column (remembered t memory p column) →
+              remembered t memory p column ≢ 0 → remembered t memory p column < 8192 →
+              remembered t memory p column ≡ fateEntry (lampWalk t first column)
           by (inl (inl none)) some small = absurd (some none)
-          by (inl (inr right)) some small = right ∙ same-fate asked (walking .actions) (walking .after)
+          by (inl (inr right)) some small = right ∙ same-fate asked (walk .actions) (walk .after)
           by (inr way) some small =
-              absurd (omega (arith, walking .links .link (way .actions) p (way .behind) (way .before) (way .after) .names))
+              absurd (omega (arith, walk .links .link (way .actions) p (way .not-earlier) (way .before) (way .after) .names))
 
-      -- The entry is a link.
+      -- The entry is a link: the walk circles.
       pub walked-circles :
-          {r : ℕ} → r ≡ fateEntry (ended (Failure Circles) 0) → 8192 ≤ getD memory place 0 → WalkedTo t first column r memory
-      walked-circles e link = walked (e ∙ by standing (rw at at link))
+          {r : ℕ} → 8192 ≤ getD memory place 0 → r ≡ fateEntry (ended (Failure Circles) 0) → WalkedTo t first column r memory
+      walked-circles link e = walked (e ∙ by standing (rw at at link))
         where
           by :
-              Stands t first column 0 (walking .actions) p column (entryOf t memory p column) →
-              8192 ≤ entryOf t memory p column → fateEntry (ended (Failure Circles) 0) ≡ fateEntry (lampWalk t first column)
+              Stands t first column 0 (walk .actions) p column (remembered t memory p column) →
+              8192 ≤ remembered t memory p column → fateEntry (ended (Failure Circles) 0) ≡ fateEntry (lampWalk t first column)
           by (inl (inl none)) link = absurd (omega arith)
           by (inl (inr right)) link = absurd (omega (arith, fate-below t (asked .well-formed) p column))
           by (inr way) link =
               told asked
-              (circle-fate t (asked .well-formed) column (way .actions) (walking .actions) first p (asked .in-range)
-              (way .before) (way .after) (walking .after))
+              (circle-fate t (asked .well-formed) column (way .actions) (walk .actions) first p (asked .in-range)
+              (way .before) (way .after) (walk .after))
 
-      -- The entry is unknown, and the action stays: a link is left.
-      pub walking-on :
-          {v : ℕ} {p′ : Pair} → v ≡ 8192 + pairNumber (t .worlds) p′ → act t p column ≡ stays p′ → getD memory place 0 ≡ 0 →
-          Walking t first column (set memory place v) p′
-      walking-on {p′ = p′} e acts none =
-          let next = far-more t column (walking .actions) first p (stays p′) (walking .after) acts in
-          record {
-            asked = asked;
-            actions = walking .actions + 1;
-            after = next;
-            links = rw (at, e) (link-left asked (walking .links) (walking .after) (rw at at none) next);
-          }
+      -- The entry is unknown, and a link is left.
+      module _ (none : getD memory place 0 ≡ 0) (n : ℕ) where
+        -- One unknown entry fewer is left.
+        pub unknown-falls : unknown (set memory place (8192 + n)) < unknown memory
+        unknown-falls =
+            tally-falls (λ v. eqb v 0) memory place (8192 + n) leaving-place (eq-eqb _ _ none) (ne-eqb (8192 + n) 0 (λ e. omega arith))
+
+        -- The action stays, and the link names the pair that it leads to: the walk goes on there.
+        pub leaving-on :
+            (step : Acted) {q : ProgramState} {w : WorldState} → moveOf step ≡ act (tablesOf s) p column → step ≡ move.Stays q w →
+            n ≡ pairNumber (j .worlds) (pair q w) →
+            LeavingLinks s j first column memory₀ (set memory place (8192 + n)) (pair q w)
+        leaving-on step acts is e =
+            let next = leads-on step acts is in
+            record {
+              opened = walk .opened;
+              same-length = length-set memory place (8192 + n) ∙ walk .same-length;
+              asked = asked;
+              in-range = within asked (walk .actions + 1) next;
+              actions = walk .actions + 1;
+              after = next;
+              links = rw (at, e) (link-left asked (walk .links) (walk .after) (rw at at none) next);
+            }

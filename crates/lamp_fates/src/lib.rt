@@ -1,9 +1,8 @@
-// What a pair comes to at a column, learnt by a walk when it is first asked for and remembered for all pairs on the way. So a
-// step is walked once, whatever is asked, and in what order.
+// The fate of a pair at a column: found by a walk when it is first asked for, and then remembered for all pairs on the way. So each
+// step is walked only once, whatever fates are asked for and in whatever order.
 //
-// A walk leaves a link to the next pair at each pair that it stays at the lamp with. Where it ends, the way is gone once more
-// along the links, and each of them gives way to what was learnt. A walk that comes to a link has come back to a pair of its own:
-// it circles.
+// While a walk stays at the lamp, it leaves at each pair a link to the next. When its fate is known, the links are followed from the
+// first pair on, and each is replaced by the fate. A walk that meets a link has come back to one of its own pairs, so it circles.
 ghost use mathlib.Core.Path.{_≡_};
 ghost use mathlib.Core.List.{List};
 ghost use Prim.Native.Nat.{ℕ, _+_, _*_, _<_};
@@ -11,28 +10,28 @@ ghost use Rattle.lamp_line.specs.Tables.{columns};
 ghost use Rattle.lamp_line.specs.Run.{pair, ended};
 ghost use Rattle.job_layout.specs.JobTables.{tablesBy};
 ghost use Rattle.job_file.specs.Reading.{Opened};
-ghost use Rattle.run_laws.specs.Pairs.{InRange, pairNumber};
-ghost use Rattle.lamp_fates.specs.Memory.{walkTo, pairCode, fateEntry, fateFrom, Memory, LookedUp};
-ghost use Rattle.lamp_fates.specs.Links.{WalkedTo};
+ghost use Rattle.run_laws.specs.inner.Pairs.{InRange, pairNumber};
+ghost use Rattle.lamp_fates.specs.inner.Memory.{walkTo, pairCode, fateEntry, fateFrom, Memory, LookedUp};
+ghost use Rattle.lamp_fates.specs.inner.Links.{WalkedTo};
 use job_layout::Job;
 use lamp_line::Ending;
 use lamp_line::FailureKind;
 use lamp_line::ProgramState;
 use lamp_line::WorldState;
 use lamp_line::failure_number;
-use lamp_walk::Move;
+use lamp_walk::Acted;
 use lamp_walk::judge;
 use lamp_walk::one_action;
 
-// What a pair comes to at a column: the run ends with the goal true, fails, or arrives at the next lamp with a pair.
+// The fate of a pair at a column: the run ends with the goal true, it fails, or a pair arrives at the next lamp.
 pub enum Fate {
     Succeeds,
     Fails(FailureKind),
     Arrives(ProgramState, WorldState),
 }
 
-// An entry from this number on is a link, to the pair with the number that is left when it is taken away: the next place is found
-// by that number alone.
+// An entry from this number on is a link. The entry minus this number is the number of the pair that it leads to, which is all that
+// is needed to find the next place.
 const LINKS: u16 = 8192;
 
 // The number of a pair among all pairs.
@@ -42,14 +41,14 @@ pub fn pair_number(state: ProgramState, world: WorldState, worlds: u8) -> usize
     state.row(worlds as u16) + world.row(1)
 }
 
-// The code of a pair.
+// A pair as one number, which can be taken apart without W.
 fn pair_code(state: ProgramState, world: WorldState) -> u16
     ensures { λ r. ⌜ r ≡ pairCode (pair state world) ⌝ }
 {
     (state.row(64) + world.row(1)) as u16
 }
 
-// The entry of an ending.
+// The entry of the fate that is this ending.
 fn ending_entry(ending: Ending) -> u16
     ensures { λ r. ⌜ r ≡ fateEntry (ended ending 0) ⌝ }
 {
@@ -59,7 +58,7 @@ fn ending_entry(ending: Ending) -> u16
     }
 }
 
-// The fate that an entry stands for, which is neither 0 nor a link.
+// The fate that an entry stands for. It is called with an entry that is neither 0 nor a link.
 fn entry_fate(entry: u16) -> Fate
     requires { ⌜ entry < 8192 ⌝ }
     ensures { λ r. ⌜ walkTo r ≡ fateFrom entry ⌝ }
@@ -86,21 +85,21 @@ fn entry_fate(entry: u16) -> Fate
     )
 }
 
-// Where the memory has the first entry of a column.
+// The place of the first entry of a column.
 fn first_place(job: Job, column: u8) -> usize
     ensures { λ r. ⌜ r ≡ column * ((job .states + 1) * job .worlds) ⌝ }
 {
     column as usize * ((job.states as usize + 1) * job.worlds as usize)
 }
 
-// Where the memory has the entry of a pair at a column.
+// The place of the entry of a pair at a column.
 fn entry_place(job: Job, state: ProgramState, world: WorldState, column: u8) -> usize
     ensures { λ r. ⌜ r ≡ column * ((job .states + 1) * job .worlds) + pairNumber (job .worlds) (pair state world) ⌝ }
 {
     first_place(job, column) + pair_number(state, world, job.worlds)
 }
 
-// Walks from the pair to its fate, whose entry is answered, and leaves links along the way.
+// Walks from the pair until its fate is known, answers the entry of the fate, and leaves links along the way.
 fn walk_to_fate(
     file: &[u8],
     job: Job,
@@ -126,9 +125,9 @@ fn walk_to_fate(
         }
         let step = one_action(file, job, q, w, column);
         match step {
-            Move::Ends(ending) => return ending_entry(ending),
-            Move::Passes(to, next) => return 16 + pair_code(to, next),
-            Move::Stays(to, next) => {
+            Acted::Ends(ending) => return ending_entry(ending),
+            Acted::Passes(to, next) => return 16 + pair_code(to, next),
+            Acted::Stays(to, next) => {
                 if to.0 == job.states {
                     return ending_entry(judge(file, job, next, column));
                 }
@@ -140,8 +139,8 @@ fn walk_to_fate(
     }
 }
 
-// Writes the entry at the pair and at every pair that the links lead to. It reads no file: its contract speaks of any with this
-// job.
+// Writes the entry at the pair and at every pair that the links lead to. It reads no file, so its contract is about any file with
+// this job.
 fn write_along(
     job: Job,
     memory: &mut [u16],
@@ -167,7 +166,7 @@ fn write_along(
     }
 }
 
-// What the pair comes to at the column. It is for the crates above and not for users: it asks for the job that the reader
+// The fate of the pair at the column. It is for the crates above and not for users: it asks for the job that the reader
 // answered for this file, for a memory, and for a pair and a column of the tables.
 pub fn fate_at(
     file: &[u8],

@@ -1,7 +1,8 @@
--- The definition of a run on small tables, each example computed. They tell the definition from near ones: a counter that is not
--- started anew at each lamp, failure 3 tested before state S or by the program state alone, a goal judged without its column.
+-- Examples of runs on small tables, each computed from the definition. They distinguish it from similar ones that would be wrong: a
+-- counter that does not start again at each lamp, failure 3 tested before state S or by the program state alone, a goal judged
+-- without its column.
 use mathlib.Core.Path.{_≡_, refl}
-use mathlib.Core.Bool.{Bool, true, false, cond}
+use mathlib.Core.Bool.{Bool, true, cond}
 use mathlib.Core.Option.{Option, none, some}
 use mathlib.Core.List.{List, [], _∷_}
 use Prim.Native.Nat.{ℕ, _+_}
@@ -33,10 +34,11 @@ small worlds states cell goal target =
       target = target;
     }
 
+-- The run of a line with these lamps from start 0.
 abbrev runOn : Tables → List ℕ → Run
 runOn t lamps = run t (worldState 0) (record { lamps = lamps; end = 0 })
 
--- State 0 ends after one action, which is also the S·W-th.
+-- State 0 goes to the final state by one action. S·W is 1, so this step is also the last that may be counted.
 abbrev one-step : Tables
 one-step = small 1 1 (λ a w c. outcome w 0 ∷ []) (λ w c. true) (λ q r. some (programState 1))
 
@@ -44,25 +46,25 @@ one-step = small 1 1 (λ a w c. outcome w 0 ∷ []) (λ w c. true) (λ q r. some
 abbrev at-once : Tables
 at-once = small 1 0 (λ a w c. []) (λ w c. eqb c 1) (λ q r. none)
 
--- State 0 ends after one action, with steps to spare, and the goal is true at a lamp only.
+-- State 0 goes to the final state by one action, of the 2 that S·W allows. The goal is true at a lamp only.
 abbrev stopping : Tables
 stopping = small 1 2 (λ a w c. outcome w 0 ∷ []) (λ w c. eqb c 1) (λ q r. some (programState 2))
 
--- State 0 is met in worlds 0, 1 and 2, and is left from world 2.
+-- State 0 is met in world states 0, 1 and 2, and is left in world state 2.
 abbrev counting : Tables
 counting =
     small 3 1 (λ a w c. cond (ltb (w .0) 2) (outcome (worldState (w .0 + 1)) 0 ∷ []) (outcome w 1 ∷ []))
     (λ w c. true)
     (λ q r. cond (eqb r 0) (some (programState 0)) (some (programState 1)))
 
--- State 0 looks whether a lamp is there, state 1 moves on: two steps a lamp, and S·W is 2.
+-- State 0 looks whether there is a lamp, state 1 moves on: two steps for each lamp, and S·W is 2.
 abbrev passing : Tables
 passing =
     small 1 2 (λ a w c. cond (eqb a 0) (outcome w c ∷ []) (outcome w 0 ∷ []))
     (λ w c. eqb c 0)
     (λ q r. cond (eqb (q .0) 0) (cond (eqb r 0) (some (programState 2)) (some (programState 1))) (some (programState 0)))
 
--- State 0 stays at itself.
+-- State 0 goes to itself, and so circles.
 abbrev turning : Tables
 turning = small 1 1 (λ a w c. outcome w 0 ∷ []) (λ w c. true) (λ q r. some (programState 0))
 
@@ -70,6 +72,7 @@ turning = small 1 1 (λ a w c. outcome w 0 ∷ []) (λ w c. true) (λ q r. some 
 abbrev branchless : Tables
 branchless = small 1 1 (λ a w c. outcome w 0 ∷ []) (λ w c. true) (λ q r. none)
 
+-- The runs. `counted-anew` counts 5 steps along two lamps although S·W is 2; the last two give the same run a limit.
 pub record Examples : Type 0 where
   pub final-before-circling : runOn one-step [] ≡ ran Goal 1
   pub goal-by-column : runOn at-once (1 ∷ 1 ∷ 1 ∷ []) ≡ ran Goal 0
@@ -82,6 +85,7 @@ pub record Examples : Type 0 where
   pub ends-at-limit : limited 5 (runOn passing (1 ∷ 1 ∷ [])) ≡ within Goal 5
   pub stopped-below : limited 4 (runOn passing (1 ∷ 1 ∷ [])) ≡ stopped 4
 
+-- Each holds by computation.
 pub examples : Examples
 unfolding lampColumn ownSteps act walk along
 examples =

@@ -1,5 +1,5 @@
--- A product is bounded by the product of its factors' bounds. `omega` takes a product of two unknowns for an unknown; with numerals
--- for the bounds this law hands it a number.
+-- A product is at most the product of its factors' bounds. `omega` treats a product of two unknowns as one unknown; where the
+-- bounds are numerals, this law gives it a number.
 use Prim.Native.Nat.{ℕ, _*_, _≤_}
 use native.Mathlib.Nat.{mul-le-mul}
 

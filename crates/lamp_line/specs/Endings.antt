@@ -1,5 +1,5 @@
--- How an execution ends (document 01, "One run"), over any planning problem of 001: Goal, failures 1, 2 and 4 where it comes to
--- rest, and failure 3 where it goes on for ever. No step counter is in these definitions.
+-- How an execution ends (01, "One run"), for any planning problem of 001. It comes to rest with Goal or with failure 1, 2 or 4, or
+-- it goes on for ever, which is failure 3. These definitions have no step counter.
 use mathlib.Core.Path.{_≡_}
 use mathlib.Core.Logic.{_≢_}
 use mathlib.Core.Option.{none}
@@ -12,7 +12,7 @@ use Rattle.lamp_line.specs.declared.FailureKind.the-variants.{NotLegal, 
 use Rattle.lamp_line.specs.declared.Ending.{Ending}
 use Rattle.lamp_line.specs.declared.Ending.the-variants.{Goal, Failure}
 
--- The papers' numbers of the failures.
+-- The numbers that 01 gives to the failure kinds.
 abbrev pub kindNumber : FailureKind → ℕ
 kindNumber NotLegal = 1
 kindNumber NoBranch = 2
@@ -20,16 +20,16 @@ kindNumber Circles = 3
 kindNumber GoalFalse = 4
 
 module _ (problem : PlanningProblem) (P : Plan) where
-  -- Poss(a, s): the action has some outcome.
+  -- Poss(a, s) of 001: the action has some outcome.
   abbrev pub Poss : Action → problem .theory .Situation → Type 0
   Poss a s = (r : Result) × (s′ : problem .theory .Situation) × problem .theory .Does a s r s′
 
-  -- Some outcome of the action has a result for which the plan has no branch.
+  -- The action of q has an outcome whose result has no branch in the plan.
   abbrev pub LacksBranch : P .State → problem .theory .Situation → Type 0
   LacksBranch q s =
       (r : Result) × (s′ : problem .theory .Situation) × problem .theory .Does (P .γ q) s r s′ × (P .δ q r ≡ none)
 
-  -- The execution has come to rest at q and s, with this ending.
+  -- The execution is at rest at q and s, and this is its ending. An execution that circles is never at rest.
   unfoldable pub Ends : Ending → P .State → problem .theory .Situation → Type 0
   Ends Goal q s = (q ≡ P .final) × problem .Goal s
   Ends (Failure NotLegal) q s = (q ≢ P .final) × ¬ (Poss (P .γ q) s)
@@ -37,12 +37,13 @@ module _ (problem : PlanningProblem) (P : Plan) where
   Ends (Failure Circles) q s = ⊥
   Ends (Failure GoalFalse) q s = (q ≡ P .final) × ¬ (problem .Goal s)
 
+  -- The execution from q and s comes to rest with this ending.
   abbrev pub Rests : Ending → P .State → problem .theory .Situation → Type 0
   Rests x q s =
       (ls : List Label) × (q′ : P .State) × (s′ : problem .theory .Situation) ×
       T* (problem .theory) P ls q s q′ s′ × Ends x q′ s′
 
-  -- The execution from q and s leads to this ending: it comes to rest so or, for failure 3, never rests.
+  -- The execution from q and s has this ending: it comes to rest with it or, for failure 3, goes on for ever.
   unfoldable pub Leads : Ending → P .State → problem .theory .Situation → Type 0
   Leads Goal q s = Rests Goal q s
   Leads (Failure NotLegal) q s = Rests (Failure NotLegal) q s

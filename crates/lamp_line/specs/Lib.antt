@@ -1,8 +1,9 @@
-pub mod Cabinet
 pub mod Check
 pub mod Endings
+pub mod Executions
 pub mod Lists
-pub mod Promises
 pub mod Refusals
 pub mod Run
 pub mod Tables
+pub mod WalkMeaning
+pub mod inner

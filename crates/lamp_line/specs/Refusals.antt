@@ -1,24 +1,27 @@
--- Refusals (document 01, "Who can cause which number"): the rules of an operation stand in a list, each with its number and its
--- condition, and the first whose condition holds is given.
+-- Refusals (01, "Who can cause which number"). The rules of an operation are a list in ascending order of their numbers, each with
+-- its condition; the first whose condition holds gives the refusal.
 use mathlib.Core.Bool.{Bool, true, false, _||_}
 use mathlib.Core.Option.{Option, none, some}
 use mathlib.Core.List.{List, [], _∷_}
 use Prim.Native.Nat.{ℕ, zero, suc}
 
+-- A rule: its number, and whether its condition holds.
 infix 20 _when_
 pub data Rule : Type 0 where
   _when_ : ℕ → Bool → Rule
 
+-- The number of the first rule that applies, if there is one.
 unfoldable pub refusal : List Rule → Option ℕ
 refusal [] = none
 refusal ((number when true) ∷ rules) = some number
 refusal ((number when false) ∷ rules) = refusal rules
 
+-- The refusal with the number, if there is one; otherwise the answer.
 abbrev pub orRefused : {A : Type 0} → (ℕ → A) → Option ℕ → A → A
 orRefused refused none answer = answer
 orRefused refused (some number) answer = refused number
 
--- What an operation answers: refused with the number of the first rule that applies, or else the answer that it has.
+-- What an operation answers: a refusal with the number of the first rule that applies; if none applies, its own answer.
 unfoldable pub answerBy : {A : Type 0} → (ℕ → A) → List Rule → A → A
 answerBy refused rules answer = orRefused refused (refusal rules) answer
 

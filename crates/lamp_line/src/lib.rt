@@ -1,14 +1,15 @@
-// The terms of document 01 as types. What they mean is defined in specs/.
+// The terms of 01 as types. Their meaning is defined in specs/.
 ghost use mathlib.Core.Path.{_≡_};
 ghost use Prim.Native.Nat.{_*_};
 ghost use Rattle.lamp_line.specs.Endings.{kindNumber};
 
-// A program state and a world state are two sorts of number (01, "The line and its tables"). A value of one sort does not pass
-// for a value of the other, and each becomes a place in a table by one function only.
+// 01, "The line and its tables": program states and world states are numbers of two different sorts. The types keep a value of one
+// sort from being used as the other, and only the function `row` of each type turns a value into a place in a table.
 pub struct ProgramState(pub u8);
 
 pub struct WorldState(pub u8);
 
+// Where the row with this number begins, in a table whose rows are `width` long.
 fn row_start(number: u8, width: u16) -> usize
     ensures { λ r. ⌜ r ≡ number * width ⌝ }
 {
@@ -41,7 +42,7 @@ pub enum FailureKind {
     GoalFalse,
 }
 
-// The papers' number of a failure.
+// The number that 01 gives to a failure kind.
 pub fn failure_number(kind: FailureKind) -> u8
     ensures { λ r. ⌜ r ≡ kindNumber kind ⌝ }
 {
@@ -59,7 +60,7 @@ pub enum Ending {
     Failure(FailureKind),
 }
 
-// The cabinet's machine (01, "The cabinet"): the program state, and the number of lamps left.
+// The state of the cabinet (01, "The cabinet"): its program state, and the number of lamps left.
 pub struct Cabinet {
     pub state: ProgramState,
     pub lamps: u16,

@@ -1,46 +1,31 @@
--- What the functions of this crate answer, in the terms of the definition of a run (document 01, "One run").
-use mathlib.Core.Bool.{cond}
-use mathlib.Core.List.{List}
+-- What the one-lamp walk answers (01, "One run" and "Who can cause which number").
+use mathlib.Core.List.{List, [], _∷_, _++_}
 use Prim.Native.Nat.{ℕ}
+use lib.Dec.{leb, ltb}
 use Rattle.lamp_line.specs.declared.ProgramState.{ProgramState}
 use Rattle.lamp_line.specs.declared.WorldState.{WorldState}
-use Rattle.lamp_line.specs.Refusals.{answerBy}
-use Rattle.lamp_line.specs.declared.FailureKind.the-variants.{Circles}
-use Rattle.lamp_line.specs.declared.Ending.{Ending}
-use Rattle.lamp_line.specs.declared.Ending.the-variants.{Failure}
-use Rattle.lamp_line.specs.Tables.{Tables}
-use Rattle.lamp_line.specs.Run.{Pair, pair, ends, stays, passes, Walk, ended, arrived, isFinal, judged, lampWalk}
-use Rattle.lamp_line.specs.Run as run
+use Rattle.lamp_line.specs.Tables.{columns}
+use Rattle.lamp_line.specs.Refusals.{Rule, _when_, answerBy}
+use Rattle.lamp_line.specs.Run.{pair, Walk, ended, arrived, lampWalk}
 use Rattle.job_layout.specs.JobTables.{tablesOf}
-use Rattle.job_file.specs.Operations.{walkRules}
-use Rattle.lamp_walk.specs.declared.Move.{Move}
-use Rattle.lamp_walk.specs.declared.Move.the-variants as move
-use Rattle.lamp_walk.specs.declared.Walked.{Walked}
-use Rattle.lamp_walk.specs.declared.Walked.the-variants as walked
+use Rattle.job_file.specs.Reading.{fileRules}
 use Rattle.lamp_walk.specs.declared.WalkAnswer.{WalkAnswer}
 use Rattle.lamp_walk.specs.declared.WalkAnswer.the-variants as answer
 
--- What comes of one action.
-abbrev pub moveOf : Move → run.Move
-moveOf (move.Ends x) = ends x
-moveOf (move.Stays q w) = stays (pair q w)
-moveOf (move.Passes q w) = passes (pair q w)
+-- After the refusals of the file: 14, a world state not below W (it need not be marked, since a walk may begin at any lamp); 15, a
+-- column that the tables do not have; 16, a program state above S.
+abbrev pub walkRules : List ℕ → ProgramState → WorldState → ℕ → List Rule
+walkRules s q w column =
+    fileRules s
+    ++ (14 when leb (tablesOf s .worlds) (w .0)) ∷ (15 when leb (columns (tablesOf s .kinds)) column)
+    ∷ (16 when ltb (tablesOf s .states) (q .0)) ∷ []
 
--- What comes of one lamp.
-abbrev pub walkOf : Walked → Walk
-walkOf (walked.Ended x k) = ended x k
-walkOf (walked.Arrived q w k) = arrived (pair q w) k
+-- A walk as an answer.
+abbrev pub walkAnswerOf : Walk → WalkAnswer
+walkAnswerOf (ended x k) = answer.Ended x k
+walkAnswerOf (arrived p k) = answer.Arrived (p .state) (p .world) k
 
--- The ending where no step is left of those that may be counted at a lamp.
-abbrev pub spentEnding : Tables → ProgramState → WorldState → ℕ → Ending
-spentEnding t q w column = cond (isFinal t q) (judged t w column) (Failure Circles)
-
--- What the operation answers of a walk.
-abbrev pub answerOf : Walk → WalkAnswer
-answerOf (ended x k) = answer.Ended x k
-answerOf (arrived p k) = answer.Arrived (p .state) (p .world) k
-
--- The one-lamp walk: the first refusal that applies, or what comes of the lamp.
+-- From a program state and a world state at a column: the first refusal that applies, or else the walk.
 unfoldable pub walkAnswer : List ℕ → ProgramState → WorldState → ℕ → WalkAnswer
 walkAnswer s q w column =
-    answerBy answer.Refused (walkRules s q w column) (answerOf (lampWalk (tablesOf s) (pair q w) column))
+    answerBy answer.Refused (walkRules s q w column) (walkAnswerOf (lampWalk (tablesOf s) (pair q w) column))

@@ -1,12 +1,13 @@
-// The one-lamp walk (document 01, "One run"): from a program state and a world state at a column, to the pair on arriving at the next
-// lamp or to the ending there, with the steps counted. `walk_lamp` is the operation; it asks nothing of its caller.
+// The one-lamp walk (01, "One run"): from a program state and a world state at a column to the pair that arrives at the next lamp,
+// or to an ending, with the steps counted. `walk_lamp` is the operation; it asks nothing of its caller.
 ghost use mathlib.Core.Path.{_≡_};
 ghost use Prim.Native.Nat.{_+_, _≤_, _<_};
 ghost use Rattle.lamp_line.specs.Tables.{columns};
 ghost use Rattle.lamp_line.specs.Run.{judged, pair, ownSteps, act, lampWalk};
 ghost use Rattle.job_layout.specs.JobTables.{tablesOf};
 ghost use Rattle.job_file.specs.Reading.{Opened};
-ghost use Rattle.lamp_walk.specs.WalkAnswers.{moveOf, spentEnding, walkOf, answerOf, walkAnswer};
+ghost use Rattle.lamp_walk.specs.WalkAnswers.{walkAnswerOf, walkAnswer};
+ghost use Rattle.lamp_walk.specs.inner.Walking.{moveOf, spentEnding, walkOf};
 use job_file::Reading;
 use job_file::read_job;
 use job_file::refusal_number;
@@ -24,28 +25,28 @@ use lamp_line::FailureKind;
 use lamp_line::ProgramState;
 use lamp_line::WorldState;
 
-// What comes of one action: the run ends, or goes on at the same lamp, or at the next.
-pub enum Move {
+// What one action does: the run ends, goes on at the same lamp, or goes on at the next.
+pub enum Acted {
     Ends(Ending),
     Stays(ProgramState, WorldState),
     Passes(ProgramState, WorldState),
 }
 
-// What comes of one lamp, with the steps counted there.
+// A walk: the run ends, or a pair arrives at the next lamp. Either comes with the steps counted at this lamp.
 pub enum Walked {
     Ended(Ending, u32),
     Arrived(ProgramState, WorldState, u32),
 }
 
-// What the one-lamp walk answers.
+// What the operation answers: the walk, or a refusal.
 pub enum WalkAnswer {
     Ended(Ending, u32),
     Arrived(ProgramState, WorldState, u32),
     Refused(u8),
 }
 
-// The ending in state S. It is for the crates above and not for users: it asks for the job that the reader answered for this file,
-// and for numbers within the tables.
+// The ending in state S, which the goal decides. It is for the crates above and not for users: it asks for the job that the reader
+// answered for this file, and for numbers within the tables.
 pub fn judge(file: &[u8], job: Job, world: WorldState, column: u8) -> Ending
     requires { ⌜ Opened (now file) job × (world .0 < job .worlds) × (column < columns (job .kinds)) ⌝ }
     ensures { λ r. ⌜ r ≡ judged (tablesOf (now (file .entry))) world column ⌝ }
@@ -57,38 +58,44 @@ pub fn judge(file: &[u8], job: Job, world: WorldState, column: u8) -> Ending
 }
 
 // The action of a state that is not final.
-fn try_action(file: &[u8], job: Job, state: ProgramState, world: WorldState, column: u8) -> Move
+fn try_action(file: &[u8], job: Job, state: ProgramState, world: WorldState, column: u8) -> Acted
     requires { ⌜ Opened (now file) job × (state .0 < job .states) × (world .0 < job .worlds) × (column < columns (job .kinds)) ⌝ }
     ensures { λ r. ⌜ moveOf r ≡ act (tablesOf (now (file .entry))) (pair state world) column ⌝ }
 {
     let action = plan_action(file, job, state);
     let cell = read_cell(file, job, action, world, column);
     let Cell::Legal(next, result) = cell else {
-        return Move::Ends(Ending::Failure(FailureKind::NotLegal));
+        return Acted::Ends(Ending::Failure(FailureKind::NotLegal));
     };
     let target = plan_target(file, job, state, result);
     let Target::To(to) = target else {
-        return Move::Ends(Ending::Failure(FailureKind::NoBranch));
+        return Acted::Ends(Ending::Failure(FailureKind::NoBranch));
     };
     if moves_on(file, job, action) {
-        return Move::Passes(to, next);
+        return Acted::Passes(to, next);
     }
-    Move::Stays(to, next)
+    Acted::Stays(to, next)
 }
 
 // One action from any program state, state S among them. It is for the crates above and not for users: it asks for the job that the
 // reader answered for this file, and for numbers within the tables.
-pub fn one_action(file: &[u8], job: Job, state: ProgramState, world: WorldState, column: u8) -> Move
+pub fn one_action(
+    file: &[u8],
+    job: Job,
+    state: ProgramState,
+    world: WorldState,
+    column: u8,
+) -> Acted
     requires { ⌜ Opened (now file) job × (state .0 ≤ job .states) × (world .0 < job .worlds) × (column < columns (job .kinds)) ⌝ }
     ensures { λ r. ⌜ moveOf r ≡ act (tablesOf (now (file .entry))) (pair state world) column ⌝ }
 {
     if state.0 == job.states {
-        return Move::Ends(judge(file, job, world, column));
+        return Acted::Ends(judge(file, job, world, column));
     }
     try_action(file, job, state, world, column)
 }
 
-// The walk where no step is left of the S·W that may be counted at a lamp.
+// The ending once S·W steps are counted at a lamp.
 fn spent(file: &[u8], job: Job, state: ProgramState, world: WorldState, column: u8) -> Ending
     requires { ⌜ Opened (now file) job × (world .0 < job .worlds) × (column < columns (job .kinds)) ⌝ }
     ensures { λ r. ⌜ r ≡ spentEnding (tablesOf (now (file .entry))) state world column ⌝ }
@@ -99,7 +106,7 @@ fn spent(file: &[u8], job: Job, state: ProgramState, world: WorldState, column: 
     Ending::Failure(FailureKind::Circles)
 }
 
-// The steps that an ending counts, with those made before it: failure 2's own step is not counted.
+// The steps that an ending counts, given those made before it. Failure 2's own step is not counted.
 fn counted(ending: Ending, made: u32) -> u32
     ensures { λ r. ⌜ r ≡ made + ownSteps ending ⌝ }
 {
@@ -108,7 +115,7 @@ fn counted(ending: Ending, made: u32) -> u32
 
 // The walk in a file that is not refused. It is for the crates above and not for users: it asks for the job that the reader
 // answered for this file, and for numbers within the tables.
-pub fn walk_open(
+pub fn walk_in_job(
     file: &[u8],
     job: Job,
     state: ProgramState,
@@ -125,9 +132,9 @@ pub fn walk_open(
     while k < most {
         let step = one_action(file, job, q, w, column);
         match step {
-            Move::Ends(ending) => return Walked::Ended(ending, counted(ending, k)),
-            Move::Passes(to, next) => return Walked::Arrived(to, next, k + 1),
-            Move::Stays(to, next) => {
+            Acted::Ends(ending) => return Walked::Ended(ending, counted(ending, k)),
+            Acted::Passes(to, next) => return Walked::Arrived(to, next, k + 1),
+            Acted::Stays(to, next) => {
                 q = to;
                 w = next;
             }
@@ -139,7 +146,7 @@ pub fn walk_open(
 }
 
 fn answer(walked: Walked) -> WalkAnswer
-    ensures { λ r. ⌜ r ≡ answerOf (walkOf walked) ⌝ }
+    ensures { λ r. ⌜ r ≡ walkAnswerOf (walkOf walked) ⌝ }
 {
     match walked {
         Walked::Ended(ending, steps) => WalkAnswer::Ended(ending, steps),
@@ -164,5 +171,5 @@ pub fn walk_lamp(file: &[u8], state: ProgramState, world: WorldState, column: u8
     if job.states < state.0 {
         return WalkAnswer::Refused(16);
     }
-    answer(walk_open(file, job, state, world, column))
+    answer(walk_in_job(file, job, state, world, column))
 }

@@ -1,3 +1,2 @@
 pub mod RunLoop
 pub mod RunRules
-pub mod RunTheorem

@@ -1,1 +1,2 @@
 pub mod RunAnswers
+pub mod inner

@@ -1,29 +1,38 @@
--- What the run operation answers (document 01, "One run" and "Who can cause which number").
-use mathlib.Core.Path.{_≡_}
-use mathlib.Core.List.{List}
+-- What the run answers (01, "One run" and "Who can cause which number").
+use mathlib.Core.Bool.{Bool, _||_, not}
+use mathlib.Core.List.{List, [], _∷_, _++_}
 use Prim.Native.Nat.{ℕ}
+use lib.Dec.{leb, ltb}
+use lib.ListN.{length}
 use Rattle.lamp_line.specs.declared.WorldState.{WorldState}
-use Rattle.lamp_line.specs.Tables.{Tables, Line, column}
-use Rattle.lamp_line.specs.Refusals.{answerBy}
+use Rattle.lamp_line.specs.Tables.{Tables, lampLine}
+use Rattle.lamp_line.specs.Refusals.{Rule, _when_, answerBy, some-of}
 use Rattle.lamp_line.specs.Run.{Limited, within, stopped, run, limited}
 use Rattle.job_layout.specs.JobTables.{tablesOf}
-use Rattle.job_file.specs.Operations.{runRules}
+use Rattle.job_rules.specs.Rules.{outside}
+use Rattle.job_file.specs.Reading.{fileRules}
 use Rattle.line_run.specs.declared.RunAnswer.{RunAnswer}
 use Rattle.line_run.specs.declared.RunAnswer.the-variants as answer
 
--- A line that is handed in as a list of kinds ends in column 0.
-abbrev pub lineOf : List ℕ → Line
-lineOf lamps = record { lamps = lamps; end = 0 }
+-- 14: the start is no world state of the tables, or has no mark.
+abbrev pub startUnmarked : Tables → WorldState → Bool
+startUnmarked t start = leb (t .worlds) (start .0) || not (t .start start)
 
--- The column of a line, whatever the tables.
-abbrev pub IsColumn : ℕ → List ℕ → Type 0
-IsColumn c lamps = (t : Tables) → c ≡ column t (lineOf lamps)
+-- 15: the line has more than 65,535 lamps, or a lamp of a kind that the tables do not have.
+abbrev pub lineWrong : ℕ → List ℕ → Bool
+lineWrong kinds lamps = ltb 65535 (length lamps) || some-of lamps (outside 1 kinds)
 
-abbrev pub answerOf : Limited → RunAnswer
-answerOf (within x k) = answer.Ended x k
-answerOf (stopped limit) = answer.Stopped limit
+-- The refusals of the run: those of the file, then 14 and 15.
+abbrev pub runRules : List ℕ → WorldState → List ℕ → List Rule
+runRules s start lamps =
+    fileRules s ++ (14 when startUnmarked (tablesOf s) start) ∷ (15 when lineWrong (tablesOf s .kinds) lamps) ∷ []
 
--- The run of a line from a start, with a limit of steps: the first refusal that applies, or the run's answer.
+-- A run with a limit as an answer.
+abbrev pub runAnswerOf : Limited → RunAnswer
+runAnswerOf (within x k) = answer.Ended x k
+runAnswerOf (stopped limit) = answer.Stopped limit
+
+-- From a start along the lamps of a line, with a limit of steps: the first refusal that applies, or else the run.
 unfoldable pub runAnswer : List ℕ → WorldState → List ℕ → ℕ → RunAnswer
 runAnswer s start lamps limit =
-    answerBy answer.Refused (runRules s start lamps) (answerOf (limited limit (run (tablesOf s) start (lineOf lamps))))
+    answerBy answer.Refused (runRules s start lamps) (runAnswerOf (limited limit (run (tablesOf s) start (lampLine lamps))))

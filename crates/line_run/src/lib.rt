@@ -1,16 +1,16 @@
-// The run of one given line (document 01, "One run"). `run_line` is the operation; it asks nothing of its caller.
+// The run of one given line (01, "One run"). `run_line` is the operation; it asks nothing of its caller.
 ghost use mathlib.Core.Path.{_≡_};
 ghost use mathlib.Core.Bool.{true};
-ghost use Prim.Native.Nat.{_≤_};
-ghost use lib.ListN.{length};
 ghost use Rattle.lamp_line.specs.Tables.{Kinds};
 ghost use Rattle.lamp_line.specs.Refusals.{some-of};
 ghost use Rattle.lamp_line.specs.Run.{ran, run, limited};
 ghost use Rattle.job_layout.specs.JobTables.{tablesOf};
 ghost use Rattle.job_rules.specs.Rules.{outside};
 ghost use Rattle.job_file.specs.Reading.{Opened};
-ghost use Rattle.job_file.specs.Operations.{lineWrong};
-ghost use Rattle.line_run.specs.RunAnswers.{lineOf, IsColumn, answerOf, runAnswer};
+ghost use Rattle.line_run.specs.RunAnswers.{lineWrong};
+ghost use Rattle.line_run.specs.RunAnswers.{runAnswerOf, runAnswer};
+ghost use Rattle.lamp_line.specs.Tables.{lampLine};
+ghost use Rattle.line_run.specs.inner.Columns.{BeginsAtColumn};
 use job_file::Reading;
 use job_file::read_job;
 use job_file::refusal_number;
@@ -19,16 +19,16 @@ use job_tables::is_start;
 use lamp_line::Ending;
 use lamp_line::WorldState;
 use lamp_walk::Walked;
-use lamp_walk::walk_open;
+use lamp_walk::walk_in_job;
 
-// What a run answers. Its steps are those that it counted.
+// What a run answers: its ending with the steps counted, Stopped with the limit, or a refusal.
 pub enum RunAnswer {
     Ended(Ending, u32),
     Stopped(u32),
     Refused(u8),
 }
 
-// One of the line's kinds is not one of 1 to `kinds`.
+// Some lamp of the line has a kind outside 1 to `kinds`.
 fn any_outside(line: &[u8], kinds: u8) -> bool
     ensures { λ r. ⌜ r ≡ some-of (now (line .entry)) (outside 1 kinds) ⌝ }
 {
@@ -49,9 +49,9 @@ fn line_wrong(line: &[u8], kinds: u8) -> bool
     (65535 < line.len()) | any_outside(line, kinds)
 }
 
-// The kind of the present lamp, or 0 when none is left.
+// The column at which the rest of the line begins: its first lamp's kind, or 0 at the line's end.
 fn column_of(rest: &[u8]) -> u8
-    ensures { λ r. ⌜ IsColumn r (now (rest .entry)) ⌝ }
+    ensures { λ r. ⌜ BeginsAtColumn r (now (rest .entry)) ⌝ }
 {
     if rest.len() == 0 {
         return 0;
@@ -61,7 +61,7 @@ fn column_of(rest: &[u8]) -> u8
 
 // An ending after k counted steps, or Stopped where k is above the limit.
 fn within_limit(ending: Ending, k: u64, limit: u32) -> RunAnswer
-    ensures { λ r. ⌜ r ≡ answerOf (limited limit (ran ending k)) ⌝ }
+    ensures { λ r. ⌜ r ≡ runAnswerOf (limited limit (ran ending k)) ⌝ }
 {
     if k <= limit as u64 {
         return RunAnswer::Ended(ending, k as u32);
@@ -69,10 +69,10 @@ fn within_limit(ending: Ending, k: u64, limit: u32) -> RunAnswer
     RunAnswer::Stopped(limit)
 }
 
-// The run in a file that is not refused, along a line of the job. At each passed lamp it hands on the part of the line behind it.
-fn run_open(file: &[u8], job: Job, start: WorldState, line: &[u8], limit: u32) -> RunAnswer
+// The run in a file that is not refused, along a line of the job. After each lamp it goes on with the part of the line after it.
+fn run_in_job(file: &[u8], job: Job, start: WorldState, line: &[u8], limit: u32) -> RunAnswer
     requires { ⌜ Opened (now file) job × (tablesOf (now file) .start start ≡ true) × Kinds (job .kinds) (now line) ⌝ }
-    ensures { λ r. ⌜ r ≡ answerOf (limited limit (run (tablesOf (now (file .entry))) start (lineOf (now (line .entry))))) ⌝ }
+    ensures { λ r. ⌜ r ≡ runAnswerOf (limited limit (run (tablesOf (now (file .entry))) start (lampLine (now (line .entry))))) ⌝ }
 {
     let mut rest = line;
     let mut q = job.first;
@@ -80,7 +80,7 @@ fn run_open(file: &[u8], job: Job, start: WorldState, line: &[u8], limit: u32) -
     let mut k: u64 = 0;
     loop {
         let column = column_of(rest);
-        let walked = walk_open(file, job, q, w, column);
+        let walked = walk_in_job(file, job, q, w, column);
         match walked {
             Walked::Ended(ending, steps) => return within_limit(ending, k + steps as u64, limit),
             Walked::Arrived(to, next, steps) => {
@@ -110,5 +110,5 @@ pub fn run_line(file: &[u8], start: WorldState, line: &[u8], limit: u32) -> RunA
     if line_wrong(line, job.kinds) {
         return RunAnswer::Refused(15);
     }
-    run_open(file, job, start, line, limit)
+    run_in_job(file, job, start, line, limit)
 }

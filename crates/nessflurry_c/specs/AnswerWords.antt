@@ -1,4 +1,5 @@
--- The one number in which an exported function answers (include/nessflurry.h): five fields, and the fields of each answer.
+-- The number that an exported function answers (include/nessflurry.h): its five fields, the codes, and the content of the fields for each
+-- answer of each operation.
 use mathlib.Core.Path.{_≡_}
 use mathlib.Core.List.{List, [], _∷_}
 use Prim.Native.Nat.{ℕ, _+_, _*_}
@@ -23,23 +24,51 @@ use Rattle.cabinet.specs.declared.ActionAnswer.the-variants as action
 use Rattle.cabinet.specs.declared.ReportAnswer.{ReportAnswer}
 use Rattle.cabinet.specs.declared.ReportAnswer.the-variants as report
 
--- Bits 0 to 7 the refusal, 8 to 15 the code, 16 to 23 the state, 24 to 31 the world, 32 to 63 the count.
-unfoldable pub word : ℕ → ℕ → ℕ → ℕ → ℕ → ℕ
-word refusal code state world count = refusal + 256 * code + 65536 * state + 16777216 * world + 4294967296 * count
+-- ---- the word
 
-abbrev pub refusedWord : ℕ → ℕ
-refusedWord number = word number 0 0 0 0
+-- Bits 0 to 7 are the refusal, 8 to 15 the code, 16 to 23 the state, 24 to 31 the world, 32 to 63 the count.
+unfoldable pub answerWord : ℕ → ℕ → ℕ → ℕ → ℕ → ℕ
+answerWord refusal code state world count = refusal + 256 * code + 65536 * state + 16777216 * world + 4294967296 * count
 
--- The codes of the endings: 0 for Goal, and a failure's number.
+-- ---- the codes
+
+-- Goal. It is also the code where a file is read, a plan accepted, an action named, a cabinet begun or a report taken.
+abbrev pub goalCode : ℕ
+goalCode = 0
+
+-- A run that needs more steps than its limit.
+abbrev pub stoppedCode : ℕ
+stoppedCode = 5
+
+-- A walk that goes on to the next lamp or to the line's end.
+abbrev pub arrivedCode : ℕ
+arrivedCode = 6
+
+-- A call for the action in state S.
+abbrev pub endedCode : ℕ
+endedCode = 7
+
+-- A refused call of any operation. Nothing else has this code, so a caller who reads only the code cannot mistake a refusal for an answer.
+abbrev pub refusedCode : ℕ
+refusedCode = 255
+
+-- The code of an ending: failure kinds have their numbers, 1 to 4.
 abbrev pub endingCode : Ending → ℕ
-endingCode Goal = 0
+endingCode Goal = goalCode
 endingCode (Failure kind) = kindNumber kind
 
+-- ---- the answers: the number for each answer of each operation
+
+-- A refusal has its number, the code 255, and 0 in the other fields. In every other answer the refusal field is 0.
+abbrev pub refusedWord : ℕ → ℕ
+refusedWord number = answerWord number refusedCode 0 0 0
+
+-- The reader answers its numbers in the lent array; the word says only whether the file is refused.
 abbrev pub readWord : Reading → ℕ
-readWord (reading.Job j) = word 0 0 0 0 0
+readWord (reading.Job j) = answerWord 0 goalCode 0 0 0
 readWord (reading.Refused number) = refusedWord number
 
--- "Bytes 0 to 5 and the five pairs as numbers."
+-- The numbers that the reader writes for a job: bytes 0 to 5 of the file, then offset and length of each of its five parts.
 abbrev pub headNumbers : Job → List ℕ
 headNumbers j =
     j .actions ∷ j .worlds ∷ j .kinds ∷ j .results ∷ j .states ∷ j .first .0
@@ -50,45 +79,51 @@ headNumbers j =
     ∷ j .plan .offset ∷ j .plan .length
     ∷ []
 
--- What the reader leaves in the lent numbers.
+-- The lent array after reading: the numbers of the job, or what it held before if the file is refused.
 abbrev pub headAfter : Reading → List ℕ → List ℕ
 headAfter (reading.Job j) before = headNumbers j
 headAfter (reading.Refused number) before = before
 
+-- The count is the walk's number of steps; state and world are the pair with which it arrives.
 abbrev pub walkWord : WalkAnswer → ℕ
-walkWord (walk.Ended x k) = word 0 (endingCode x) 0 0 k
-walkWord (walk.Arrived q w k) = word 0 6 (q .0) (w .0) k
+walkWord (walk.Ended x k) = answerWord 0 (endingCode x) 0 0 k
+walkWord (walk.Arrived q w k) = answerWord 0 arrivedCode (q .0) (w .0) k
 walkWord (walk.Refused number) = refusedWord number
 
+-- The count is the run's number of steps.
 abbrev pub runWord : RunAnswer → ℕ
-runWord (run.Ended x k) = word 0 (endingCode x) 0 0 k
-runWord (run.Stopped k) = word 0 5 0 0 k
+runWord (run.Ended x k) = answerWord 0 (endingCode x) 0 0 k
+runWord (run.Stopped k) = answerWord 0 stoppedCode 0 0 k
 runWord (run.Refused number) = refusedWord number
 
+-- After Accepted the count is the number of pairs. After Failed the state field holds the start, and the count is the number of lamps.
 abbrev pub checkWord : CheckAnswer → ℕ
-checkWord (check.Accepted count) = word 0 0 0 0 count
-checkWord (check.Failed f) = word 0 (kindNumber (f .kind)) (f .start .0) 0 (f .lamps)
+checkWord (check.Accepted count) = answerWord 0 goalCode 0 0 count
+checkWord (check.Failed f) = answerWord 0 (kindNumber (f .kind)) (f .start .0) 0 (f .lamps)
 checkWord (check.Refused number) = refusedWord number
 
--- The number is that of a right answer of the check, for the lent buffers before and after.
+-- The contract of the exported check: r is the number for an answer that the check may give, with the lent buffers before and after.
 pub record CheckedWord (s : List ℕ) (r : ℕ) (before after : Lent) : Type 0 where
   pub answer : CheckAnswer
   pub checked : Checked s answer before after
   pub as-number : r ≡ checkWord answer
 
--- A refusal, or 0, with a cabinet's state.
-abbrev pub cabinetWord : ℕ → Cabinet → ℕ
-cabinetWord number m = word number 0 (m .state .0) 0 (m .lamps)
+-- A cabinet's state, with a code and the number of a refusal or 0.
+abbrev pub cabinetWord : ℕ → ℕ → Cabinet → ℕ
+cabinetWord number code m = answerWord number code (m .state .0) 0 (m .lamps)
 
+-- The cabinet's first state.
 abbrev pub beginWord : BeginAnswer → ℕ
-beginWord (begin.Begun m) = cabinetWord 0 m
+beginWord (begin.Begun m) = cabinetWord 0 goalCode m
 beginWord (begin.Refused number) = refusedWord number
 
+-- The state field holds the action.
 abbrev pub actionWord : ActionAnswer → ℕ
-actionWord (action.Action a) = word 0 0 a 0 0
-actionWord action.Ended = word 0 7 0 0 0
+actionWord (action.Action a) = answerWord 0 goalCode a 0 0
+actionWord action.Ended = answerWord 0 endedCode 0 0 0
 actionWord (action.Refused number) = refusedWord number
 
+-- A refused report also has the old state.
 abbrev pub reportWord : ReportAnswer → ℕ
-reportWord (report.Taken m) = cabinetWord 0 m
-reportWord (report.Refused number m) = cabinetWord number m
+reportWord (report.Taken m) = cabinetWord 0 goalCode m
+reportWord (report.Refused number m) = cabinetWord number refusedCode m

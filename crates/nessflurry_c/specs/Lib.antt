@@ -1,1 +1,3 @@
 pub mod AnswerWords
+pub mod Fields
+pub mod Version

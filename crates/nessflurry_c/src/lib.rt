@@ -1,5 +1,6 @@
-// The operations as functions for C (include/nessflurry.h): numbers and lent buffers only. Each calls one operation, and answers
-// what the operation answers as one number.
+// The operations as functions for C, with numbers and lent buffers only. `nessflurry_version` reports the version. Each of the others calls
+// the operation that it is named after, and answers what it answers as one number. They are called raw because the pointer of a slice
+// must not be NULL. C programs call the functions of include/nessflurry.h, which replace a NULL that has no elements by another pointer.
 mod words;
 
 ghost use mathlib.Core.Path.{_≡_};
@@ -9,12 +10,12 @@ ghost use Rattle.lamp_walk.specs.WalkAnswers.{walkAnswer};
 ghost use Rattle.line_run.specs.RunAnswers.{runAnswer};
 ghost use Rattle.cabinet.specs.CabinetAnswers.{beginAnswer, actionAnswer, reportAnswer};
 ghost use Rattle.nessflurry_c.specs.AnswerWords.{readWord, headNumbers, headAfter, walkWord, runWord, CheckedWord, beginWord, actionWord, reportWord};
+ghost use Rattle.nessflurry_c.specs.Version.{version};
 use cabinet::begin;
 use cabinet::next_action;
 use cabinet::report;
 use job_file::Reading;
 use job_file::read_job;
-use job_file::refusal_number;
 use job_layout::Job;
 use lamp_line::Cabinet;
 use lamp_line::ProgramState;
@@ -25,74 +26,22 @@ use plan_check::check_plan;
 use words::action_word;
 use words::begin_word;
 use words::check_word;
-use words::refused_word;
+use words::read_word;
 use words::report_word;
 use words::run_word;
 use words::walk_word;
 
-#[no_mangle]
-pub extern "C" fn nessflurry_walk(file: &[u8], state: u8, world: u8, column: u8) -> u64
-    ensures { λ r. ⌜ r ≡ walkWord (walkAnswer (now (file .entry)) (programState state) (worldState world) column) ⌝ }
-{
-    walk_word(walk_lamp(file, ProgramState(state), WorldState(world), column))
-}
+// The version of include/nessflurry.h.
+const VERSION: u32 = 1;
 
 #[no_mangle]
-pub extern "C" fn nessflurry_run(file: &[u8], start: u8, line: &[u8], limit: u32) -> u64
-    ensures { λ r. ⌜ r ≡ runWord (runAnswer (now (file .entry)) (worldState start) (now (line .entry)) limit) ⌝ }
+pub extern "C" fn nessflurry_version() -> u32
+    ensures { λ r. ⌜ r ≡ version ⌝ }
 {
-    run_word(run_line(file, WorldState(start), line, limit))
+    VERSION
 }
 
-#[no_mangle]
-pub extern "C" fn nessflurry_begin(file: &[u8], lamps: u16) -> u64
-    ensures { λ r. ⌜ r ≡ beginWord (beginAnswer (now (file .entry)) lamps) ⌝ }
-{
-    begin_word(begin(file, lamps))
-}
-
-#[no_mangle]
-pub extern "C" fn nessflurry_action(file: &[u8], state: u8, lamps: u16) -> u64
-    ensures { λ r. ⌜ r ≡ actionWord (actionAnswer (now (file .entry)) (record { state = programState state; lamps = lamps })) ⌝ }
-{
-    action_word(next_action(
-        file,
-        Cabinet {
-            state: ProgramState(state),
-            lamps: lamps,
-        },
-    ))
-}
-
-#[no_mangle]
-pub extern "C" fn nessflurry_report(file: &[u8], state: u8, lamps: u16, result: u8) -> u64
-    ensures { λ r. ⌜ r ≡ reportWord (reportAnswer (now (file .entry)) (record { state = programState state; lamps = lamps }) result) ⌝ }
-{
-    report_word(report(
-        file,
-        Cabinet {
-            state: ProgramState(state),
-            lamps: lamps,
-        },
-        result,
-    ))
-}
-
-#[no_mangle]
-pub extern "C" fn nessflurry_check(
-    file: &[u8],
-    line: &mut [u8],
-    list: &mut [u32],
-    words: &mut [u64],
-) -> u64
-    ensures { λ r. ⌜ CheckedWord (now (file .entry)) r
-        (record { line = now (line .entry); list = now (list .entry); words = now (words .entry) })
-        (record { line = now (line .exit); list = now (list .exit); words = now (words .exit) }) ⌝ }
-{
-    check_word(check_plan(file, line, list, words))
-}
-
-// The numbers of a job that the reader answers, in the header's order.
+// The numbers that the reader writes for a job, in their order.
 fn head_numbers(job: Job) -> [u16; 16]
     ensures { λ r. ⌜ r ≡ headNumbers job ⌝ }
 {
@@ -122,14 +71,76 @@ fn head_numbers(job: Job) -> [u16; 16]
 }
 
 #[no_mangle]
-pub extern "C" fn nessflurry_read(file: &[u8], head: &mut [u16; 16]) -> u64
+pub extern "C" fn nessflurry_raw_read(file: &[u8], head: &mut [u16; 16]) -> u64
     ensures { λ r. ⌜ r ≡ readWord (readingOf (now (file .entry))) ⌝ }
     ensures { λ _. ⌜ now (head .exit) ≡ headAfter (readingOf (now (file .entry))) (now (head .entry)) ⌝ }
 {
     let reading = read_job(file);
     let Reading::Job(job) = reading else {
-        return refused_word(refusal_number(reading));
+        return read_word(reading);
     };
     *head = head_numbers(job);
-    0
+    read_word(reading)
+}
+
+#[no_mangle]
+pub extern "C" fn nessflurry_raw_walk(file: &[u8], state: u8, world: u8, column: u8) -> u64
+    ensures { λ r. ⌜ r ≡ walkWord (walkAnswer (now (file .entry)) (programState state) (worldState world) column) ⌝ }
+{
+    walk_word(walk_lamp(file, ProgramState(state), WorldState(world), column))
+}
+
+#[no_mangle]
+pub extern "C" fn nessflurry_raw_run(file: &[u8], start: u8, line: &[u8], limit: u32) -> u64
+    ensures { λ r. ⌜ r ≡ runWord (runAnswer (now (file .entry)) (worldState start) (now (line .entry)) limit) ⌝ }
+{
+    run_word(run_line(file, WorldState(start), line, limit))
+}
+
+#[no_mangle]
+pub extern "C" fn nessflurry_raw_check(
+    file: &[u8],
+    line: &mut [u8],
+    list: &mut [u32],
+    words: &mut [u64],
+) -> u64
+    ensures { λ r. ⌜ CheckedWord (now (file .entry)) r
+        (record { line = now (line .entry); list = now (list .entry); words = now (words .entry) })
+        (record { line = now (line .exit); list = now (list .exit); words = now (words .exit) }) ⌝ }
+{
+    check_word(check_plan(file, line, list, words))
+}
+
+#[no_mangle]
+pub extern "C" fn nessflurry_raw_begin(file: &[u8], lamps: u16) -> u64
+    ensures { λ r. ⌜ r ≡ beginWord (beginAnswer (now (file .entry)) lamps) ⌝ }
+{
+    begin_word(begin(file, lamps))
+}
+
+#[no_mangle]
+pub extern "C" fn nessflurry_raw_action(file: &[u8], state: u8, lamps: u16) -> u64
+    ensures { λ r. ⌜ r ≡ actionWord (actionAnswer (now (file .entry)) (record { state = programState state; lamps = lamps })) ⌝ }
+{
+    action_word(next_action(
+        file,
+        Cabinet {
+            state: ProgramState(state),
+            lamps: lamps,
+        },
+    ))
+}
+
+#[no_mangle]
+pub extern "C" fn nessflurry_raw_report(file: &[u8], state: u8, lamps: u16, result: u8) -> u64
+    ensures { λ r. ⌜ r ≡ reportWord (reportAnswer (now (file .entry)) (record { state = programState state; lamps = lamps }) result) ⌝ }
+{
+    report_word(report(
+        file,
+        Cabinet {
+            state: ProgramState(state),
+            lamps: lamps,
+        },
+        result,
+    ))
 }

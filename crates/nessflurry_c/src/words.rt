@@ -1,10 +1,11 @@
-// Answers as numbers for C: the fields of each answer in one word.
+// The answers of the operations as numbers for C: each function puts the fields of one operation's answer into one word.
 ghost use mathlib.Core.Path.{_≡_};
-ghost use Rattle.nessflurry_c.specs.AnswerWords.{word, endingCode, walkWord, runWord, checkWord, beginWord, actionWord, reportWord};
-ghost use Rattle.nessflurry_c.specs.AnswerWords.{refusedWord, cabinetWord};
+ghost use Rattle.nessflurry_c.specs.AnswerWords.{answerWord, refusedWord, readWord, endingCode, walkWord, runWord};
+ghost use Rattle.nessflurry_c.specs.AnswerWords.{checkWord, cabinetWord, beginWord, actionWord, reportWord};
 use cabinet::ActionAnswer;
 use cabinet::BeginAnswer;
 use cabinet::ReportAnswer;
+use job_file::Reading;
 use lamp_line::Cabinet;
 use lamp_line::Ending;
 use lamp_line::failure_number;
@@ -12,8 +13,20 @@ use lamp_walk::WalkAnswer;
 use line_run::RunAnswer;
 use plan_check::CheckAnswer;
 
-fn word_of(refusal: u8, code: u8, state: u8, world: u8, count: u32) -> u64
-    ensures { λ r. ⌜ r ≡ word refusal code state world count ⌝ }
+// The codes, besides 1 to 4, which are the numbers of the failure kinds.
+const GOAL: u8 = 0;
+
+const STOPPED: u8 = 5;
+
+const ARRIVED: u8 = 6;
+
+const ENDED: u8 = 7;
+
+const REFUSED: u8 = 255;
+
+// The five fields as one word.
+fn answer_word(refusal: u8, code: u8, state: u8, world: u8, count: u32) -> u64
+    ensures { λ r. ⌜ r ≡ answerWord refusal code state world count ⌝ }
 {
     refusal as u64
         + 256 * code as u64
@@ -22,17 +35,28 @@ fn word_of(refusal: u8, code: u8, state: u8, world: u8, count: u32) -> u64
         + 4294967296 * count as u64
 }
 
-pub fn refused_word(number: u8) -> u64
+// A refusal with no state.
+fn refused_word(number: u8) -> u64
     ensures { λ r. ⌜ r ≡ refusedWord number ⌝ }
 {
-    word_of(number, 0, 0, 0, 0)
+    answer_word(number, REFUSED, 0, 0, 0)
 }
 
+pub fn read_word(reading: Reading) -> u64
+    ensures { λ r. ⌜ r ≡ readWord reading ⌝ }
+{
+    match reading {
+        Reading::Job(job) => answer_word(0, GOAL, 0, 0, 0),
+        Reading::Refused(number) => refused_word(number),
+    }
+}
+
+// The code of an ending.
 fn ending_code(ending: Ending) -> u8
     ensures { λ r. ⌜ r ≡ endingCode ending ⌝ }
 {
     match ending {
-        Ending::Goal => 0,
+        Ending::Goal => GOAL,
         Ending::Failure(kind) => failure_number(kind),
     }
 }
@@ -41,8 +65,10 @@ pub fn walk_word(answer: WalkAnswer) -> u64
     ensures { λ r. ⌜ r ≡ walkWord answer ⌝ }
 {
     match answer {
-        WalkAnswer::Ended(ending, steps) => word_of(0, ending_code(ending), 0, 0, steps),
-        WalkAnswer::Arrived(state, world, steps) => word_of(0, 6, state.0, world.0, steps),
+        WalkAnswer::Ended(ending, steps) => answer_word(0, ending_code(ending), 0, 0, steps),
+        WalkAnswer::Arrived(state, world, steps) => {
+            answer_word(0, ARRIVED, state.0, world.0, steps)
+        }
         WalkAnswer::Refused(number) => refused_word(number),
     }
 }
@@ -51,8 +77,8 @@ pub fn run_word(answer: RunAnswer) -> u64
     ensures { λ r. ⌜ r ≡ runWord answer ⌝ }
 {
     match answer {
-        RunAnswer::Ended(ending, steps) => word_of(0, ending_code(ending), 0, 0, steps),
-        RunAnswer::Stopped(steps) => word_of(0, 5, 0, 0, steps),
+        RunAnswer::Ended(ending, steps) => answer_word(0, ending_code(ending), 0, 0, steps),
+        RunAnswer::Stopped(steps) => answer_word(0, STOPPED, 0, 0, steps),
         RunAnswer::Refused(number) => refused_word(number),
     }
 }
@@ -61,10 +87,10 @@ pub fn check_word(answer: CheckAnswer) -> u64
     ensures { λ r. ⌜ r ≡ checkWord answer ⌝ }
 {
     match answer {
-        CheckAnswer::Accepted(count) => word_of(0, 0, 0, 0, count),
+        CheckAnswer::Accepted(count) => answer_word(0, GOAL, 0, 0, count),
         CheckAnswer::Failed(failure) => {
             let kind = failure.kind;
-            word_of(
+            answer_word(
                 0,
                 failure_number(kind),
                 failure.start.0,
@@ -76,17 +102,18 @@ pub fn check_word(answer: CheckAnswer) -> u64
     }
 }
 
-fn cabinet_word(number: u8, state: Cabinet) -> u64
-    ensures { λ r. ⌜ r ≡ cabinetWord number state ⌝ }
+// A cabinet's state, with a code and the number of a refusal or 0.
+fn cabinet_word(number: u8, code: u8, state: Cabinet) -> u64
+    ensures { λ r. ⌜ r ≡ cabinetWord number code state ⌝ }
 {
-    word_of(number, 0, state.state.0, 0, state.lamps as u32)
+    answer_word(number, code, state.state.0, 0, state.lamps as u32)
 }
 
 pub fn begin_word(answer: BeginAnswer) -> u64
     ensures { λ r. ⌜ r ≡ beginWord answer ⌝ }
 {
     match answer {
-        BeginAnswer::Begun(state) => cabinet_word(0, state),
+        BeginAnswer::Begun(state) => cabinet_word(0, GOAL, state),
         BeginAnswer::Refused(number) => refused_word(number),
     }
 }
@@ -95,8 +122,8 @@ pub fn action_word(answer: ActionAnswer) -> u64
     ensures { λ r. ⌜ r ≡ actionWord answer ⌝ }
 {
     match answer {
-        ActionAnswer::Action(action) => word_of(0, 0, action, 0, 0),
-        ActionAnswer::Ended => word_of(0, 7, 0, 0, 0),
+        ActionAnswer::Action(action) => answer_word(0, GOAL, action, 0, 0),
+        ActionAnswer::Ended => answer_word(0, ENDED, 0, 0, 0),
         ActionAnswer::Refused(number) => refused_word(number),
     }
 }
@@ -105,7 +132,7 @@ pub fn report_word(answer: ReportAnswer) -> u64
     ensures { λ r. ⌜ r ≡ reportWord answer ⌝ }
 {
     match answer {
-        ReportAnswer::Taken(state) => cabinet_word(0, state),
-        ReportAnswer::Refused(number, state) => cabinet_word(number, state),
+        ReportAnswer::Taken(state) => cabinet_word(0, GOAL, state),
+        ReportAnswer::Refused(number, state) => cabinet_word(number, REFUSED, state),
     }
 }

@@ -1,4 +1,4 @@
--- Bits of a list of words: where one is set only that one changes, and where words are written as 0 their bits are cleared.
+-- Bits of a list of words: setting one changes no other, and writing words as 0 clears their bits.
 use mathlib.Core.Path.{_≡_}
 use mathlib.Core.Logic.{_≢_}
 use mathlib.Core.List.{List}
@@ -10,7 +10,7 @@ use lib.Bits.{bitOr}
 use lib.ListN.{length, getD, set, length-set}
 use lib.Pow.{pow-pos}
 use lib.Seq.{getD-set-same, getD-set-other}
-use Rattle.pair_bits.specs.Bits.{bitOf, Cleared, OnlySet}
+use Rattle.pair_bits.specs.inner.Bits.{bitOf, Cleared, OnlySet}
 use Rattle.pair_bits.proofs.WordBits.{or-set, or-keep}
 
 -- The word of bit i with that bit set.
@@ -34,9 +34,9 @@ bit-kept ws i k h n = go (ℕ-discrete (k / 64) (i / 64))
         (or-keep (getD ws (i / 64) 0) (i % 64) (k % 64) (omega arith) (λ f. n (omega arith)))
     go (no d) = rw (getD-set-other ws (i / 64) (k / 64) (withBit ws i) 0 d)
 
--- Setting bit i.
-pub only-set : (ws : List ℕ) (i : ℕ) → i < length ws * 64 → OnlySet ws (set ws (i / 64) (withBit ws i)) i
-only-set ws i h =
+-- An or with a one at bit i's place sets bit i and no other.
+pub only-set : {ws : List ℕ} {i : ℕ} → i < length ws * 64 → OnlySet ws (set ws (i / 64) (withBit ws i)) i
+only-set {ws} {i} h =
     record {
       now-set = rw (bit-set ws i h);
       others = λ k n. rw (bit-kept ws i k h n);
@@ -46,18 +46,19 @@ only-set ws i h =
 -- ---- words written as 0
 
 -- The first n words are 0.
-abbrev pub Zeros : List ℕ → ℕ → Type 0
-Zeros ws n = (i : ℕ) → i < n → getD ws i 0 ≡ 0
+pub record Zeros (ws : List ℕ) (n : ℕ) : Type 0 where
+  pub zero-at : (i : ℕ) → i < n → getD ws i 0 ≡ 0
 
--- One word more.
-pub zeros-more : (ws : List ℕ) (n : ℕ) → n < length ws → Zeros ws n → Zeros (set ws n 0) (n + 1)
-zeros-more ws n l zeros i h = go (ℕ-discrete i n)
-  where
-    go : Dec (i ≡ n) → getD (set ws n 0) i 0 ≡ 0
-    go (yes e) = rw e (getD-set-same ws n 0 0 l)
-    go (no d) = rw (getD-set-other ws n i 0 0 d) (zeros i (omega arith))
+module _ {ws : List ℕ} {n : ℕ} (zeros : Zeros ws n) where
+  -- Word n is written as 0 too.
+  pub zeros-more : n < length ws → Zeros (set ws n 0) (n + 1)
+  zeros-more l = record { zero-at = λ i h. go i h (ℕ-discrete i n) }
+    where
+      go : (i : ℕ) → i < n + 1 → Dec (i ≡ n) → getD (set ws n 0) i 0 ≡ 0
+      go i h (yes e) = rw e (getD-set-same ws n 0 0 l)
+      go i h (no d) = rw (getD-set-other ws n i 0 0 d) (zeros .zero-at i (omega arith))
 
--- Then their bits are cleared.
-pub zeros-cleared : (ws : List ℕ) (n k : ℕ) → (n + 63) / 64 ≤ k → Zeros ws k → Cleared ws n
-unfolding Cleared bitOf
-zeros-cleared ws n k h zeros i l = rw (zeros (i / 64) (omega arith), div-eq-of-lt (pow-pos (i % 64)))
+  -- Words that are 0 have no bit set.
+  pub zeros-cleared : (m : ℕ) → (m + 63) / 64 ≤ n → Cleared ws m
+  unfolding Cleared bitOf
+  zeros-cleared m h i l = rw (zeros .zero-at (i / 64) (omega arith), div-eq-of-lt (pow-pos (i % 64)))

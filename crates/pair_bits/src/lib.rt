@@ -1,10 +1,11 @@
-// One bit a pair in lent 64-bit words: cleared, read, set and summed. A job has at most 65 times 64 pairs.
+// A set of pairs as bits, one for each pair, in 64-bit words that the caller lends: cleared, read, set and counted. A job has at
+// most 65 · 64 pairs.
 //
 // These functions are for the search in the crate above and not for users: each asks for words that have room for the bits.
 ghost use mathlib.Core.Path.{_≡_};
 ghost use Prim.Native.Nat.{_*_, _<_, _≤_};
 ghost use lib.ListN.{length};
-ghost use Rattle.pair_bits.specs.Bits.{bitAt, countTo, Cleared, OnlySet};
+ghost use Rattle.pair_bits.specs.inner.Bits.{bitAt, countTo, Cleared, OnlySet};
 
 // Clears the words that hold the first n bits, whatever they held.
 pub fn clear_bits(words: &mut [u64], n: usize)
@@ -38,7 +39,7 @@ pub fn set_bit(words: &mut [u64], i: usize)
     words[at] = w | (1u64 << (i % 64));
 }
 
-// The number of ones among the first n bits: words are taken whole, the last one without what lies behind the n bits.
+// The number of ones among the first n bits: words are taken whole, the last one without its bits after the first n.
 pub fn count_bits(words: &[u64], n: usize) -> u32
     requires { ⌜ (n ≤ length (now words) * 64) × (n ≤ 4160) ⌝ }
     ensures { λ r. ⌜ r ≡ countTo (now (words .entry)) n ⌝ }

@@ -1,4 +1,4 @@
--- What the check answers, rule by rule.
+-- The check's answer, rule by rule.
 use mathlib.Core.Path.{_≡_, refl, sym, ap₂, subst, _∙_}
 use mathlib.Core.Bool.{Bool, true, false, cond, _||_}
 use mathlib.Core.Option.{Option, none, some}
@@ -10,28 +10,28 @@ use native.Mathlib.Omega.{arith}
 use borrow.Author.Tests.{ltb-true, ltb-false, lt-ltb, le-ltb}
 use lib.Dec.{ltb}
 use lib.ListN.{length}
-use Rattle.lamp_line.specs.Refusals.{Rule, refusal}
+use Rattle.lamp_line.specs.Refusals.{refusal}
 use Rattle.job_layout.specs.declared.Job.{Job}
 use Rattle.job_layout.specs.JobTables.{tablesBy, tablesOf}
 use Rattle.job_file.specs.declared.Reading.the-variants as reading
 use Rattle.job_file.specs.Reading.{readingOf, Opened}
-use Rattle.job_file.specs.Operations.{checkRules}
+use Rattle.plan_check.specs.CheckAnswers.{checkRules}
 use Rattle.job_file.proofs.Opening.{file-refused, file-opened}
 use Rattle.job_file.proofs.WellFormed.{tables-are, well-formed-by}
 use Rattle.job_tables.proofs.Ranges.{states-are, worlds-are}
 use Rattle.lamp_line.specs.Tables.{Tables, columns}
 use Rattle.lamp_line.specs.Check.{Right}
-use Rattle.lamp_line.specs.Refusals.{orRefused, answerBy}
-use Rattle.lamp_line.proofs.Answering.{by-rule, by-no-rule}
+use Rattle.lamp_line.proofs.Answering.{refusal-is, by-rule, by-no-rule}
 use Rattle.check_laws.proofs.VerdictRight.{verdict-right}
-use Rattle.lamp_fates.specs.Memory.{entries}
+use Rattle.lamp_fates.specs.inner.Memory.{memorySize}
 use Rattle.lamp_fates.proofs.BlankMemory.{entries-most}
 use Rattle.plan_search.specs.declared.Found.{Found}
 use Rattle.plan_search.specs.declared.Found.the-variants as found
-use Rattle.plan_search.specs.Searching.{Room, verdictIn, Finds}
+use Rattle.plan_search.specs.inner.Searching.{Room, verdictIn, Finds}
 use Rattle.plan_check.specs.declared.CheckAnswer.{CheckAnswer}
 use Rattle.plan_check.specs.declared.CheckAnswer.the-variants as answer
-use Rattle.plan_check.specs.CheckAnswers.{AnsweredRight, answerOf, Lent, CheckedBy, Checked}
+use Rattle.plan_check.specs.CheckAnswers.{AnsweredRight, Lent, CheckedBy, Checked}
+use Rattle.plan_check.specs.inner.FoundAnswers.{checkAnswerOf}
 
 -- ---- sizes
 
@@ -48,119 +48,112 @@ all-pairs states worlds = rw (add-one states) (suc-mul states worlds)
 
 -- ---- the rules
 
-refusal-is : (rules : List Rule) → refusal rules ≡ answerBy some rules none
-unfolding answerBy
-refusal-is rules = by (refusal rules)
-  where
-    by : (o : Option ℕ) → o ≡ orRefused some o none
-    by none = refl
-    by (some number) = refl
+module _ (s : List ℕ) (lent : Lent) where
+  abbrev firstRefusal : Option ℕ
+  firstRefusal = refusal (checkRules s (length (lent .line)) (length (lent .list)) (length (lent .words)))
 
-module _ (s : List ℕ) (buffer numbers words : ℕ) where
-  check-file-refused : (number : ℕ) → readingOf s ≡ reading.Refused number → refusal (checkRules s buffer numbers words) ≡ some number
-  check-file-refused number e = refusal-is _ ∙ sym (file-refused some s _ none number e)
+  check-file-refused : {number : ℕ} → readingOf s ≡ reading.Refused number → firstRefusal ≡ some number
+  check-file-refused {number} e = refusal-is _ ∙ sym (file-refused some s _ none number e)
 
-  module _ (j : Job) (opened : Opened s j) where
-    check-by-rules :
-        refusal (checkRules s buffer numbers words)
-        ≡ cond (ltb buffer (j .states * j .worlds + 1)) (some 12)
-        (cond (ltb numbers (j .states * j .worlds + j .worlds) || ltb words ((j .states * j .worlds + j .worlds + 63) / 64)) (some 13) none)
-    check-by-rules =
-        refusal-is _ ∙ (file-opened some s _ none j opened ∙ (by-rule some _ _ _ none ∙ rw (
-          by-rule,
-          by-no-rule,
-          same-test words (j .states * j .worlds + j .worlds),
-          ← all-pairs (j .states) (j .worlds),
-          states-are s j opened,
-          worlds-are s j opened,
-        )))
+  check-by-rules :
+      {j : Job} → Opened s j →
+      firstRefusal
+      ≡ cond (ltb (length (lent .line)) (j .states * j .worlds + 1)) (some 12)
+      (cond
+      (ltb (length (lent .list)) (j .states * j .worlds + j .worlds)
+      || ltb (length (lent .words)) ((j .states * j .worlds + j .worlds + 63) / 64))
+      (some 13) none)
+  check-by-rules {j} opened =
+      refusal-is _ ∙ (file-opened some s _ none j opened ∙ (by-rule some _ _ _ none ∙ rw (
+        by-rule,
+        by-no-rule,
+        same-test (length (lent .words)) (j .states * j .worlds + j .worlds),
+        ← all-pairs (j .states) (j .worlds),
+        states-are s j opened,
+        worlds-are s j opened,
+      )))
 
 -- ---- the answer
 
--- A refusal changes nothing.
-refused-checked : (o : Option ℕ) (t : Tables) (number : ℕ) (lent : Lent) → o ≡ some number → CheckedBy o t (answer.Refused number) lent lent
-refused-checked o t number lent e =
-    subst (λ (o : Option ℕ). CheckedBy o t (answer.Refused number) lent lent) (sym e) (refl, refl)
-
--- What the search finds is a right answer: its answer is the definition's, which is right.
+-- What the search finds is right: it is the verdict of the definition, which is right.
 pub found-right :
-    (s : List ℕ) (j : Job) {f : Found} {line line′ : List ℕ} → Opened s j → Finds (tablesBy s j) f line line′ →
-    AnsweredRight (tablesOf s) (answerOf f) line line′
+    (s : List ℕ) {j : Job} {f : Found} {line line′ : List ℕ} → Opened s j → Finds (tablesBy s j) f line line′ →
+    AnsweredRight (tablesOf s) (checkAnswerOf f) line line′
 unfolding AnsweredRight
-found-right s j {f} {line} {line′} opened finds =
-    subst (λ (t : Tables). AnsweredRight t (answerOf f) line line′) (tables-are s j opened)
+found-right s {j} {f} {line} {line′} opened finds =
+    subst (λ (t : Tables). AnsweredRight t (checkAnswerOf f) line line′) (tables-are s j opened)
     (go f finds (rw (finds .verdict-is) at (verdict-right (tablesBy s j) (well-formed-by s j opened))))
   where
     go :
         (f : Found) → Finds (tablesBy s j) f line line′ → Right (tablesBy s j) (verdictIn f line′) →
-        AnsweredRight (tablesBy s j) (answerOf f) line line′
+        AnsweredRight (tablesBy s j) (checkAnswerOf f) line line′
     go (found.Accepted count) finds right = (right, finds .others)
     go (found.Failed kind start lamps) finds right = record { right = right; within = finds .within; others = finds .others }
 
-module _ (s : List ℕ) (line list words : List ℕ) where
-  abbrev lent : Lent
-  lent = record { line = line; list = list; words = words }
+-- A file that is not refused, with lent buffers that are large enough.
+pub record Enough (s : List ℕ) (lent : Lent) (j : Job) : Type 0 where
+  pub opened : Opened s j
+  pub line-enough : j .states * j .worlds + 1 ≤ length (lent .line)
+  pub list-enough : j .states * j .worlds + j .worlds ≤ length (lent .list)
+  pub words-enough : (j .states * j .worlds + j .worlds + 63) / 64 ≤ length (lent .words)
 
-  -- A refused file.
-  pub file-refused-checked : (number : ℕ) → readingOf s ≡ reading.Refused number → Checked s (answer.Refused number) lent lent
-  file-refused-checked number e =
-      refused-checked _ (tablesOf s) number lent (check-file-refused s (length line) (length list) (length words) number e)
+module _ {s : List ℕ} {lent : Lent} {j : Job} (enough : Enough s lent j) where
+  -- No refusal applies, so a right answer is what the contract asks for.
+  pub right-checked :
+      (r : CheckAnswer) (after : Lent) → AnsweredRight (tablesOf s) r (lent .line) (after .line) → Checked s r lent after
+  right-checked r after right =
+      subst (λ (o : Option ℕ). CheckedBy o (tablesOf s) r lent after) (sym none-applies) right
+    where
+      none-applies : firstRefusal s lent ≡ none
+      none-applies =
+          check-by-rules s lent (enough .opened)
+          ∙ rw (le-ltb _ _ (enough .line-enough), le-ltb _ _ (enough .list-enough), le-ltb _ _ (enough .words-enough))
 
-  module _ (j : Job) (opened : Opened s j) where
-    -- A line buffer that is too short.
-    pub buffer-refused : length line < j .states * j .worlds + 1 → Checked s (answer.Refused 12) lent lent
-    buffer-refused short =
-        refused-checked _ (tablesOf s) 12 lent
-        (check-by-rules s (length line) (length list) (length words) j opened ∙ rw (lt-ltb _ _ short))
+  -- There is room for the search.
+  pub has-room : Room (tablesBy s j) (length (lent .line)) (length (lent .list)) (length (lent .words))
+  has-room =
+      record {
+        line-room = enough .line-enough;
+        list-room = rw (all-pairs (j .states) (j .worlds)) (enough .list-enough);
+        words-room = rw (all-pairs (j .states) (j .worlds)) (omega (arith, enough .words-enough));
+      }
 
-    module _ (enough : j .states * j .worlds + 1 ≤ length line) where
-      -- A working list that is too short.
-      pub list-refused : length list < j .states * j .worlds + j .worlds → Checked s (answer.Refused 13) lent lent
-      list-refused short =
-          refused-checked _ (tablesOf s) 13 lent
-          (check-by-rules s (length line) (length list) (length words) j opened ∙ rw (le-ltb _ _ enough, lt-ltb _ _ short))
+  -- The memory has an entry for each pair at each column. The code computes their number in its own way.
+  module _ {count : ℕ} (e : count ≡ columns (j .kinds)) where
+    size-is : (j .states * j .worlds + j .worlds) * count ≡ memorySize (tablesBy s j)
+    size-is = mul-comm (j .states * j .worlds + j .worlds) count ∙ ap₂ (λ (m n : ℕ). m * n) e (sym (all-pairs (j .states) (j .worlds)))
 
-      module _ (listed : j .states * j .worlds + j .worlds ≤ length list) where
-        -- Words that are too few.
-        pub words-refused :
-            length words < (j .states * j .worlds + j .worlds + 63) / 64 → Checked s (answer.Refused 13) lent lent
-        words-refused short =
-            refused-checked _ (tablesOf s) 13 lent
-            (check-by-rules s (length line) (length list) (length words) j opened
-            ∙ rw (le-ltb _ _ enough, le-ltb _ _ listed, lt-ltb _ _ short))
+    -- A memory with at least that number of entries is large enough.
+    pub fits-in : {most : ℕ} → (j .states * j .worlds + j .worlds) * count ≤ most → memorySize (tablesBy s j) ≤ most
+    fits-in h = rw size-is at h
 
-        module _ (bits : (j .states * j .worlds + j .worlds + 63) / 64 ≤ length words) where
-          -- A right answer.
-          pub right-checked :
-              (r : CheckAnswer) (line′ list′ words′ : List ℕ) → AnsweredRight (tablesOf s) r line line′ →
-              Checked s r lent (record { line = line′; list = list′; words = words′ })
-          right-checked r line′ list′ words′ right =
-              let none-applies : refusal (checkRules s (length line) (length list) (length words)) ≡ none =
-              check-by-rules s (length line) (length list) (length words) j opened
-              ∙ rw (le-ltb _ _ enough, le-ltb _ _ listed, le-ltb _ _ bits) in
-              subst (λ (o : Option ℕ). CheckedBy o (tablesOf s) r lent (record { line = line′; list = list′; words = words′ }))
-              (sym none-applies)
-              right
+    -- No job needs more than the largest memory.
+    pub size-bound : (j .states * j .worlds + j .worlds) * count ≤ 66560
+    size-bound = rw size-is (entries-most (well-formed-by s j (enough .opened)))
 
-          -- There is room for the search.
-          pub has-room : Room (tablesBy s j) (length line) (length list) (length words)
-          has-room =
-              record {
-                line-room = enough;
-                list-room = rw (all-pairs (j .states) (j .worlds)) listed;
-                words-room = rw (all-pairs (j .states) (j .worlds)) (omega arith);
-              }
+module _ (s : List ℕ) (lent : Lent) where
+  -- The first rule that applies is the answer, and nothing is changed.
+  refused-by :
+      {number : ℕ} → firstRefusal s lent ≡ some number → Checked s (answer.Refused number) lent lent
+  refused-by {number} e =
+      subst (λ (o : Option ℕ). CheckedBy o (tablesOf s) (answer.Refused number) lent lent) (sym e) (refl, refl)
 
--- ---- the memory
+  -- A refused file is answered with its refusal.
+  pub file-refused-checked : {number : ℕ} → readingOf s ≡ reading.Refused number → Checked s (answer.Refused number) lent lent
+  file-refused-checked e = refused-by (check-file-refused s lent e)
 
-module _ (s : List ℕ) (j : Job) {count : ℕ} (e : count ≡ columns (j .kinds)) where
-  size-is : (j .states * j .worlds + j .worlds) * count ≡ entries (tablesBy s j)
-  size-is = mul-comm (j .states * j .worlds + j .worlds) count ∙ ap₂ (λ (m n : ℕ). m * n) e (sym (all-pairs (j .states) (j .worlds)))
+  module _ {j : Job} (opened : Opened s j) where
+    -- A line buffer that is too short is answered with 12.
+    pub buffer-refused : length (lent .line) < j .states * j .worlds + 1 → Checked s (answer.Refused 12) lent lent
+    buffer-refused short = refused-by (check-by-rules s lent opened ∙ rw (lt-ltb _ _ short))
 
-  -- A memory of this size is enough.
-  pub fits-in : (most : ℕ) → (j .states * j .worlds + j .worlds) * count ≤ most → entries (tablesBy s j) ≤ most
-  fits-in most h = rw size-is at h
+    module _ (enough : j .states * j .worlds + 1 ≤ length (lent .line)) where
+      -- A working list that is too short is answered with 13.
+      pub list-refused : length (lent .list) < j .states * j .worlds + j .worlds → Checked s (answer.Refused 13) lent lent
+      list-refused short = refused-by (check-by-rules s lent opened ∙ rw (le-ltb _ _ enough, lt-ltb _ _ short))
 
-  -- And no job wants more than the largest.
-  pub size-bound : Opened s j → (j .states * j .worlds + j .worlds) * count ≤ 66560
-  size-bound opened = rw size-is (entries-most (well-formed-by s j opened))
+      -- So are too few words.
+      pub words-refused :
+          j .states * j .worlds + j .worlds ≤ length (lent .list) →
+          length (lent .words) < (j .states * j .worlds + j .worlds + 63) / 64 → Checked s (answer.Refused 13) lent lent
+      words-refused listed short = refused-by (check-by-rules s lent opened ∙ rw (le-ltb _ _ enough, le-ltb _ _ listed, lt-ltb _ _ short))

@@ -1,52 +1,60 @@
--- What the check answers, and what it leaves in the lent buffers (document 01, "The check" and "Who can cause which number").
+-- The check's answer, and what it leaves in the lent buffers (01, "The check" and "Who can cause which number").
 use mathlib.Core.Path.{_≡_}
+use mathlib.Core.Bool.{Bool, _||_}
 use mathlib.Core.Option.{Option, none, some}
-use mathlib.Core.List.{List}
-use Prim.Native.Nat.{ℕ, _≤_}
+use mathlib.Core.List.{List, [], _∷_, _++_}
+use Prim.Native.Nat.{ℕ, _+_, _*_, _≤_}
+use lib.Dec.{ltb}
 use lib.ListN.{length, take, drop}
-use Rattle.lamp_line.specs.Tables.{Tables, Line}
-use Rattle.lamp_line.specs.Refusals.{refusal}
+use Rattle.lamp_line.specs.Tables.{Tables, lampLine}
+use Rattle.lamp_line.specs.Refusals.{Rule, _when_, refusal}
 use Rattle.lamp_line.specs.Check.{accepted, failed, Right}
 use Rattle.job_layout.specs.JobTables.{tablesOf}
-use Rattle.job_file.specs.Operations.{checkRules}
-use Rattle.plan_search.specs.declared.Found.{Found}
-use Rattle.plan_search.specs.declared.Found.the-variants as found
+use Rattle.job_file.specs.Reading.{fileRules}
 use Rattle.plan_check.specs.declared.Failure.{Failure}
 use Rattle.plan_check.specs.declared.CheckAnswer.{CheckAnswer}
 use Rattle.plan_check.specs.declared.CheckAnswer.the-variants as answer
 
--- The line of the first `lamps` bytes of a buffer.
-abbrev pub lineIn : List ℕ → ℕ → Line
-lineIn buffer lamps = record { lamps = take lamps buffer; end = 0 }
+-- 12: the line buffer has fewer than S·W + 1 bytes.
+abbrev pub bufferShort : Tables → ℕ → Bool
+bufferShort t size = ltb size (t .states * t .worlds + 1)
 
--- The failure is the right one: "the line is at the front of the lent line buffer, whose other bytes keep their content".
+-- 13: the working list has fewer than (S + 1)·W numbers, or the words have fewer bits than that.
+abbrev pub listShort : Tables → ℕ → ℕ → Bool
+listShort t numbers words = ltb numbers ((t .states + 1) * t .worlds) || ltb (64 * words) ((t .states + 1) * t .worlds)
+
+-- The refusals of a check: those of the file, then 12 and 13. The sizes are those of the lent line buffer, working list and words.
+abbrev pub checkRules : List ℕ → ℕ → ℕ → ℕ → List Rule
+checkRules s buffer numbers words =
+    fileRules s ++ (12 when bufferShort (tablesOf s) buffer) ∷ (13 when listShort (tablesOf s) numbers words) ∷ []
+
+-- The failure is the right one. Its line is at the front of the line buffer, and the bytes after it are as before.
 pub record FailedRight (t : Tables) (f : Failure) (line line′ : List ℕ) : Type 0 where
-  pub right : Right t (failed (f .kind) (f .start) (lineIn line′ (f .lamps)))
+  pub right : Right t (failed (f .kind) (f .start) (lampLine (take (f .lamps) line′)))
   pub within : f .lamps ≤ length line′
   pub others : drop (f .lamps) line′ ≡ drop (f .lamps) line
 
--- A right answer on tables that are not refused, for the line buffer before and after. "After Accepted the whole buffer does."
+-- A right answer on tables that are not refused, for the line buffer before and after. After Accepted the buffer is as before.
 unfoldable pub AnsweredRight : Tables → CheckAnswer → List ℕ → List ℕ → Type 0
 AnsweredRight t (answer.Accepted count) line line′ = Right t (accepted count) × (line′ ≡ line)
 AnsweredRight t (answer.Failed f) line line′ = FailedRight t f line line′
 AnsweredRight t (answer.Refused number) line line′ = ⊥
 
--- What the operation answers of what the search found.
-abbrev pub answerOf : Found → CheckAnswer
-answerOf (found.Accepted count) = answer.Accepted count
-answerOf (found.Failed kind start lamps) = answer.Failed (record { kind = kind; start = start; lamps = lamps })
-
--- The lent buffers: line, working list, words.
+-- The content of the lent buffers.
 pub record Lent : Type 0 where
   pub line : List ℕ
   pub list : List ℕ
   pub words : List ℕ
 
--- The first refusal that applies, and then no lent byte is changed; or a right answer.
+-- If a refusal applies, it is the answer, and no lent byte is changed; otherwise the answer is right.
 abbrev pub CheckedBy : Option ℕ → Tables → CheckAnswer → Lent → Lent → Type 0
 CheckedBy (some number) t r before after = (r ≡ answer.Refused number) × (after ≡ before)
 CheckedBy none t r before after = AnsweredRight t r (before .line) (after .line)
 
+-- The refusal of a call with these buffers.
+abbrev pub checkRefusal : List ℕ → Lent → Option ℕ
+checkRefusal s before = refusal (checkRules s (length (before .line)) (length (before .list)) (length (before .words)))
+
+-- The contract of the check, for the file's bytes, the answer, and the lent buffers before and after.
 abbrev pub Checked : List ℕ → CheckAnswer → Lent → Lent → Type 0
-Checked s r before after =
-    CheckedBy (refusal (checkRules s (length (before .line)) (length (before .list)) (length (before .words)))) (tablesOf s) r before after
+Checked s r before after = CheckedBy (checkRefusal s before) (tablesOf s) r before after

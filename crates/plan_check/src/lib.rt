@@ -1,14 +1,15 @@
-// The check (document 01, the section of that name): is the plan right on every line of every length, from every marked start?
-// `check_plan` is the operation; it asks nothing of its caller. What its search learns of pairs it keeps in a memory on the stack,
-// which is small where the job is: to clear the largest costs more than a whole check of a small job.
+// The check (01, "The check"): does the plan reach the goal on all lines, however long, from all marked starts? `check_plan` is the
+// operation; it asks nothing of its caller. Its search remembers the fates of walks in a memory on the stack. The memory is small for a
+// small job, because clearing the largest one costs more than the whole check of such a job.
 ghost use mathlib.Core.Path.{_≡_};
 ghost use Prim.Native.Nat.{_≤_};
 ghost use lib.ListN.{length};
 ghost use Rattle.job_layout.specs.JobTables.{tablesBy, tablesOf};
 ghost use Rattle.job_file.specs.Reading.{Opened};
-ghost use Rattle.lamp_fates.specs.Memory.{entries};
-ghost use Rattle.plan_search.specs.Searching.{Room};
-ghost use Rattle.plan_check.specs.CheckAnswers.{answerOf, AnsweredRight, Checked};
+ghost use Rattle.lamp_fates.specs.inner.Memory.{memorySize};
+ghost use Rattle.plan_search.specs.inner.Searching.{Room};
+ghost use Rattle.plan_check.specs.CheckAnswers.{AnsweredRight, Checked};
+ghost use Rattle.plan_check.specs.inner.FoundAnswers.{checkAnswerOf};
 use job_file::Reading;
 use job_file::read_job;
 use job_file::refusal_number;
@@ -19,22 +20,24 @@ use lamp_line::WorldState;
 use plan_search::Found;
 use plan_search::search;
 
-// A failure: its kind, the start, and the number of lamps of its line.
+// A failure: its kind, and the start and the number of lamps of its line. The lamps themselves are in the line buffer.
 pub struct Failure {
     pub kind: FailureKind,
     pub start: WorldState,
     pub lamps: u16,
 }
 
-// What the check answers. Accepted has the number of pairs that some line reaches.
+// The check's answer. Accepted holds the number of pairs that some line reaches on arriving at a lamp or at the line's end, Refused the
+// number of the refusal.
 pub enum CheckAnswer {
     Accepted(u32),
     Failed(Failure),
     Refused(u8),
 }
 
+// The check's answer for what the search found.
 fn answer(found: Found) -> CheckAnswer
-    ensures { λ r. ⌜ r ≡ answerOf found ⌝ }
+    ensures { λ r. ⌜ r ≡ checkAnswerOf found ⌝ }
 {
     match found {
         Found::Accepted(count) => CheckAnswer::Accepted(count),
@@ -59,7 +62,7 @@ fn find_small(
 ) -> CheckAnswer
     requires { ⌜ Opened (now file) job
         × Room (tablesBy (now file) job) (length (now line)) (length (now list)) (length (now words))
-        × (entries (tablesBy (now file) job) ≤ 256) ⌝ }
+        × (memorySize (tablesBy (now file) job) ≤ 256) ⌝ }
     ensures { λ r. ⌜ AnsweredRight (tablesOf (now (file .entry))) r (now (line .entry)) (now (line .exit)) ⌝ }
 {
     let mut memory = [0u16; 256];
@@ -76,14 +79,14 @@ fn find_middle(
 ) -> CheckAnswer
     requires { ⌜ Opened (now file) job
         × Room (tablesBy (now file) job) (length (now line)) (length (now list)) (length (now words))
-        × (entries (tablesBy (now file) job) ≤ 8192) ⌝ }
+        × (memorySize (tablesBy (now file) job) ≤ 8192) ⌝ }
     ensures { λ r. ⌜ AnsweredRight (tablesOf (now (file .entry))) r (now (line .entry)) (now (line .exit)) ⌝ }
 {
     let mut memory = [0u16; 8192];
     answer(search(file, job, &mut memory, line, list, words))
 }
 
-// The search with a memory for every job: at most 65 times 64 pairs at 16 columns.
+// The search with a memory for every job: there are at most 65 times 64 pairs at 16 columns.
 fn find_large(
     file: &[u8],
     job: Job,
@@ -99,7 +102,7 @@ fn find_large(
     answer(search(file, job, &mut memory, line, list, words))
 }
 
-// The check of the plan of any file, with a lent line buffer, working list and words of any size and content.
+// Checks the plan of any file, with a lent line buffer, working list and words of any size and content.
 pub fn check_plan(file: &[u8], line: &mut [u8], list: &mut [u32], words: &mut [u64]) -> CheckAnswer
     ensures { λ r. ⌜ Checked (now (file .entry)) r
         (record { line = now (line .entry); list = now (list .entry); words = now (words .entry) })

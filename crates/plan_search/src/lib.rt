@@ -1,6 +1,6 @@
-// The search of the check (document 01, "The check"). It goes through places: at place 0 the starts are tried, with the empty line;
-// at each further place a pair of the working list, whose line is tried with one lamp more, of each kind. A pair that is new is put
-// in the list, unless the line that ends with it fails. The search ends at the first line that fails, or where no place is left.
+// The search of the check (01, "The check"). It goes through places. At place 0 it tries the empty line from each start. Every further
+// place belongs to a pair of the working list, and there it tries that pair's line with one lamp more, of each kind. A new pair is put
+// in the list, unless the line that ends with it fails. The search stops at a line that fails, or when no place is left.
 ghost use mathlib.Core.Path.{_≡_};
 ghost use mathlib.Core.Bool.{_&&_};
 ghost use mathlib.Core.List.{List};
@@ -9,10 +9,11 @@ ghost use lib.Dec.{eqb};
 ghost use lib.ListN.{length};
 ghost use Rattle.job_layout.specs.JobTables.{tablesBy};
 ghost use Rattle.job_file.specs.Reading.{Opened};
-ghost use Rattle.lamp_fates.specs.Memory.{pairs, Memory};
-ghost use Rattle.pair_bits.specs.Bits.{bitAt};
-ghost use Rattle.check_laws.specs.Search.{firstLabel, labels};
-ghost use Rattle.plan_search.specs.Searching.{table, Listed, Ready, Label, Begins, Tries, Turned, Searched, Room, Finds};
+ghost use Rattle.lamp_fates.specs.inner.Memory.{Memory};
+ghost use Rattle.run_laws.specs.inner.Pairs.{pairs};
+ghost use Rattle.pair_bits.specs.inner.Bits.{bitAt};
+ghost use Rattle.check_laws.specs.inner.Search.{firstLabel, labels};
+ghost use Rattle.plan_search.specs.inner.Searching.{table, Listed, Ready, HasLabel, Begins, Tries, Turned, Searched, Room, Finds};
 use crate::line::lamps_at;
 use crate::line::write_line;
 use crate::list::pack;
@@ -33,8 +34,8 @@ use pair_bits::set_bit;
 mod line;
 mod list;
 
-// A pair in the working list, with the place and the label by which it was found. The pair at index i has place i + 1. At place 0 the
-// labels are the starts, at the others the kinds of lamps.
+// A pair in the working list, with the place and the label by which it was found. The pair at index i has place i + 1. The labels are
+// the starts at place 0 and the kinds of lamps at all others.
 pub struct Placed {
     pub state: ProgramState,
     pub world: WorldState,
@@ -42,40 +43,41 @@ pub struct Placed {
     pub label: u8,
 }
 
-// Where the last stretch of a line begins: with a pair at a column; nowhere, if there is no such line.
+// Where the last stretch of a line, its last lamp or the end of an empty line, begins: with a pair at a column; nowhere, if there is no
+// such line.
 pub enum Stretch {
     Nowhere,
     From(ProgramState, WorldState, u8),
 }
 
-// What comes of a line: it fails; nothing is new; or it comes to its end, and does not fail there, with a pair that is new.
+// What comes of trying a line: it fails; nothing is new; or it reaches its end with a new pair, and does not fail there.
 pub enum Tried {
     Fails(FailureKind),
     Nothing,
     New(ProgramState, WorldState),
 }
 
-// What a turn of the search comes to: a line fails, or the list holds so many pairs.
-pub enum Turn {
+// The outcome of a turn of the search: its line fails, or the list now holds this many pairs.
+pub enum TurnEnd {
     Fails(FailureKind),
     Holds(usize),
 }
 
-// Where the search ends: no line fails, and so many pairs are reached; or, with so many pairs in the list, the line that is tried at
-// a place with a label fails.
-pub enum Halted {
+// Where the search ends: no line fails, and this many pairs are reached; or a line fails. Then it answers the failure kind, the number
+// of pairs in the list, and the place and the label at which the line was tried.
+pub enum SearchEnd {
     Through(u32),
     AtLine(FailureKind, usize, usize, u8),
 }
 
-// What the search finds: the number of pairs reached, or the failure with its start and the number of its lamps.
+// What the search finds: the number of pairs reached, or the failure kind with the start and the number of lamps of its line.
 pub enum Found {
     Accepted(u32),
     Failed(FailureKind, WorldState, u16),
 }
 
-// The line that is tried at a place with a label: at place 0 it has only its end; at the others its lamps but the last led to the
-// pair that the list has there.
+// Where the last stretch begins of the line that is tried at a place with a label. At place 0 the line is empty. At every other place
+// its lamps but the last led to the pair that the list has for that place.
 fn last_stretch(
     file: &[u8],
     job: Job,
@@ -86,7 +88,7 @@ fn last_stretch(
     label: u8,
 ) -> Stretch
     requires { ⌜ Opened (now file) job × Listed (tablesBy (now file) job) (now list) (now words) count
-        × Label (tablesBy (now file) job) count place label ⌝ }
+        × HasLabel (tablesBy (now file) job) count place label ⌝ }
     ensures { λ r. ⌜ Begins (tablesBy (now (file .entry)) job) (table (tablesBy (now (file .entry)) job) (now (list .entry)) count)
         place label r ⌝ }
 {
@@ -104,7 +106,7 @@ fn last_stretch(
     Stretch::From(state, world, label)
 }
 
-// A line is at its end, with a pair that is in the list.
+// Whether a line is at its end with a pair that is in the list already.
 fn is_met(words: &[u64], pair: usize, column: u8) -> bool
     requires { ⌜ pair < length (now words) * 64 ⌝ }
     ensures { λ r. ⌜ r ≡ (eqb column 0 && bitAt (now (words .entry)) pair) ⌝ }
@@ -115,7 +117,7 @@ fn is_met(words: &[u64], pair: usize, column: u8) -> bool
     false
 }
 
-// A line is tried, at its last lamp and then, where it comes there with a pair that is new, at its end.
+// Tries a line: from its last lamp, and then, if it gets there with a new pair, at its end.
 fn try_line(
     file: &[u8],
     job: Job,
@@ -127,7 +129,7 @@ fn try_line(
     label: u8,
 ) -> Tried
     requires { ⌜ Ready (now file) job (now memory) × Listed (tablesBy (now file) job) (now list) (now words) count
-        × Label (tablesBy (now file) job) count place label ⌝ }
+        × HasLabel (tablesBy (now file) job) count place label ⌝ }
     ensures { λ r. ⌜ Tries (tablesBy (now (file .entry)) job) (table (tablesBy (now (file .entry)) job) (now (list .entry)) count)
         place label (now (words .entry)) r (now (memory .exit)) ⌝ }
 {
@@ -158,7 +160,7 @@ fn try_line(
     }
 }
 
-// One label at one place; a pair that is new is put in the list.
+// Tries one label at one place; a new pair is put in the list.
 fn one_turn(
     file: &[u8],
     job: Job,
@@ -168,16 +170,16 @@ fn one_turn(
     count: usize,
     place: usize,
     label: u8,
-) -> Turn
+) -> TurnEnd
     requires { ⌜ Ready (now file) job (now memory) × Listed (tablesBy (now file) job) (now list) (now words) count
-        × Label (tablesBy (now file) job) count place label ⌝ }
+        × HasLabel (tablesBy (now file) job) count place label ⌝ }
     ensures { λ r. ⌜ Turned (tablesBy (now (file .entry)) job) (now (list .entry)) count place label r
         (now (list .exit)) (now (words .exit)) × Memory (tablesBy (now (file .entry)) job) (now (memory .exit)) ⌝ }
 {
     let tried = try_line(file, job, memory, list, words, count, place, label);
     match tried {
-        Tried::Fails(failure) => Turn::Fails(failure),
-        Tried::Nothing => Turn::Holds(count),
+        Tried::Fails(failure) => TurnEnd::Fails(failure),
+        Tried::Nothing => TurnEnd::Holds(count),
         Tried::New(state, world) => {
             set_bit(words, pair_number(state, world, job.worlds));
             let placed = Placed {
@@ -187,7 +189,7 @@ fn one_turn(
                 label: label,
             };
             list[count] = pack(placed);
-            Turn::Holds(count + 1)
+            TurnEnd::Holds(count + 1)
         }
     }
 }
@@ -213,14 +215,14 @@ fn last_label(job: Job, place: usize) -> u8
     job.kinds
 }
 
-// Place after place is tried with all its labels.
+// Tries place after place with all its labels.
 fn search_places(
     file: &[u8],
     job: Job,
     memory: &mut [u16],
     list: &mut [u32],
     words: &mut [u64],
-) -> Halted
+) -> SearchEnd
     requires { ⌜ Ready (now file) job (now memory) × (pairs (tablesBy (now file) job) ≤ length (now list))
         × (pairs (tablesBy (now file) job) ≤ length (now words) * 64) ⌝ }
     ensures { λ r. ⌜ Searched (tablesBy (now (file .entry)) job) r (now (list .exit)) ⌝ }
@@ -235,24 +237,29 @@ fn search_places(
         while label <= last {
             let turn = one_turn(file, job, memory, list, words, count, place, label);
             match turn {
-                Turn::Fails(failure) => break 'search Halted::AtLine(failure, count, place, label),
-                Turn::Holds(n) => {
+                TurnEnd::Fails(failure) => break 'search SearchEnd::AtLine(
+                    failure,
+                    count,
+                    place,
+                    label,
+                ),
+                TurnEnd::Holds(n) => {
                     count = n;
                 }
             }
             label += 1;
         }
         if count <= place {
-            break 'search Halted::Through(count_bits(words, pairs));
+            break 'search SearchEnd::Through(count_bits(words, pairs));
         }
         place += 1;
     };
     halted
 }
 
-// The search of the check: the number of pairs reached, where no line fails; else the first failure, whose line is written at the
-// front of the line buffer. It is for the crate above and not for users: it asks for the job that the reader answered for this file,
-// for a memory of its tables, and for buffers with room.
+// The search of the check: the number of pairs reached if no line fails, else the first failure, whose line is written at the front of
+// the line buffer. It is for the crates above and not for users: it asks for the job that the reader answered for this file, for a
+// memory of fates in its tables, and for buffers with room.
 pub fn search(
     file: &[u8],
     job: Job,
@@ -267,8 +274,8 @@ pub fn search(
 {
     let halted = search_places(file, job, memory, list, words);
     match halted {
-        Halted::Through(count) => Found::Accepted(count),
-        Halted::AtLine(failure, count, place, label) => {
+        SearchEnd::Through(count) => Found::Accepted(count),
+        SearchEnd::AtLine(failure, count, place, label) => {
             let lamps = lamps_at(&list[..count], place);
             let start = write_line(&list[..count], line, place, label, lamps);
             Found::Failed(failure, start, lamps as u16)

@@ -1,13 +1,13 @@
-// The line that is tried at a place, read off the list by going from place to place, back to place 0.
+// The line that is tried at a place, read off the list from that place back to place 0.
 ghost use mathlib.Core.Path.{_≡_};
 ghost use Prim.Native.Nat.{ℕ, _≤_, _<_};
 ghost use lib.ListN.{length};
-ghost use Rattle.check_laws.specs.Search.{lineLamps};
-ghost use Rattle.plan_search.specs.Placing.{entries, Chained, Written};
+ghost use Rattle.check_laws.specs.inner.Search.{lineLamps};
+ghost use Rattle.plan_search.specs.inner.Placing.{entries, Chained, Written};
 use crate::list::unpack;
 use lamp_line::WorldState;
 
-// How many lamps the lines have that are tried at a place.
+// The number of lamps of the lines that are tried at a place: it is the same for every label.
 pub fn lamps_at(list: &[u32], from: usize) -> usize
     requires { ⌜ Chained (now list) × (from ≤ length (now list)) × (length (now list) ≤ 4160) ⌝ }
     ensures { λ r. ⌜ ((worlds label : ℕ) → r ≡ length (lineLamps (entries worlds (now (list .entry))) from label)) ⌝ }

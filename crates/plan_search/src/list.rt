@@ -1,7 +1,7 @@
 // The words of the working list: a placed pair as one 32-bit number, and back.
 ghost use mathlib.Core.Path.{_≡_};
 ghost use Prim.Native.Nat.{_<_};
-ghost use Rattle.plan_search.specs.Placing.{packed, unpacked};
+ghost use Rattle.plan_search.specs.inner.Placing.{packed, unpacked};
 use crate::Placed;
 use lamp_line::ProgramState;
 use lamp_line::WorldState;

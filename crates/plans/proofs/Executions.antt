@@ -1,5 +1,6 @@
--- Executions of any plan in any action theory: an execution as a chain of steps, and executions that go on for ever. Where each
--- step is determined, the shorter of two executions from one place begins the longer.
+-- Laws of executions, for any plan and any action theory: an execution as a chain of steps, and executions that go on for ever.
+-- Where each step is determined, the shorter of two executions from the same place is the beginning of the longer. A place is a
+-- program state with a situation.
 use mathlib.Core.Path.{_≡_, refl, sym, ap, subst₂, _∙_}
 use mathlib.Core.List.{List, [], _∷_, _++_, append-nil}
 use Prim.Native.Nat.{ℕ, zero, suc, _≤_}
@@ -34,7 +35,7 @@ module _ (D : ActionTheory) (P : Plan) where
   chain→execution done = here
   chain→execution (first x a) = join (step x) (chain→execution a)
 
-  -- The execution comes to this place by the steps ls, and goes on from there by a last step l.
+  -- The execution reaches the place (state, at) by the steps ls, and goes on from there by a last step, with label l.
   pub record LastStep
       (ls : List Label) (l : Label) (q : P .State) (s : D .Situation) (q′ : P .State) (s′ : D .Situation) : Type 0 where
     pub state : P .State
@@ -50,7 +51,7 @@ module _ (D : ActionTheory) (P : Plan) where
       let b = last-of-chain ls a in
       record { state = b .state; at = b .at; before = join (step x) (b .before); last = b .last }
 
-  -- An execution with a last label has a last step.
+  -- An execution whose labels end with l has a last step, and its label is l.
   pub last-step :
       (ls : List Label) {l : Label} {q q′ : P .State} {s s′ : D .Situation} →
       T* D P (ls ++ (l ∷ [])) q s q′ s′ → LastStep ls l q s q′ s′
@@ -78,7 +79,7 @@ module _ (D : ActionTheory) (P : Plan) where
       steps zero = subst₂ (λ q′ s′. Step D P q s l q′ s′) (sym (f .begins .0)) (sym (f .begins .1)) x
       steps (suc i) = f .steps i
 
-  -- An execution that comes to a place from which it goes on for ever does so from its beginning.
+  -- If an execution reaches a place from which it goes on for ever, it goes on for ever from its beginning.
   pub forever-before :
       {ls : List Label} {q q′ : P .State} {s s′ : D .Situation} →
       T* D P ls q s q′ s′ → Forever D P q′ s′ → Forever D P q s
@@ -98,13 +99,13 @@ module _ (D : ActionTheory) (P : Plan) where
 
   -- ---- where each step is determined
 
-  -- A place has at most one step.
+  -- At most one step leaves each place.
   pub record StepsDetermined : Type 0 where
     pub one-step :
         {l m : Label} {q q₁ q₂ : P .State} {s s₁ s₂ : D .Situation} →
         Step D P q s l q₁ s₁ → Step D P q s m q₂ s₂ → (l ≡ m) × (q₁ ≡ q₂) × (s₁ ≡ s₂)
 
-  -- A place has no step.
+  -- No step leaves the place.
   abbrev pub Halted : P .State → D .Situation → Type 0
   Halted q s = (l : Label) (q′ : P .State) (s′ : D .Situation) → ¬ (Step D P q s l q′ s′)
 
@@ -127,7 +128,7 @@ module _ (D : ActionTheory) (P : Plan) where
         let (ns, e, c) = shared-chain a b′ (omega arith) in
         (ns, cc, c)
 
-    -- The shorter of two executions from one place begins the longer, which goes on from where the shorter ends.
+    -- The shorter of two executions from the same place is the beginning of the longer, which goes on from where the shorter ends.
     pub shared-beginning :
         {ls ms : List Label} {q q₁ q₂ : P .State} {s s₁ s₂ : D .Situation} →
         T* D P ls q s q₁ s₁ → T* D P ms q s q₂ s₂ → length ls ≤ length ms →
@@ -136,7 +137,7 @@ module _ (D : ActionTheory) (P : Plan) where
         let (ns, e, c) = shared-chain (execution→chain a) (execution→chain b) h in
         (ns, e, chain→execution c)
 
-    -- Two executions from one place with the same number of steps are one.
+    -- Two executions from the same place with the same number of steps are equal.
     pub same-length-same-execution :
         {ls ms : List Label} {q q₁ q₂ : P .State} {s s₁ s₂ : D .Situation} →
         T* D P ls q s q₁ s₁ → T* D P ms q s q₂ s₂ → length ls ≡ length ms → (ls ≡ ms) × (q₁ ≡ q₂) × (s₁ ≡ s₂)
@@ -147,7 +148,7 @@ module _ (D : ActionTheory) (P : Plan) where
         go ([], e, c) = let (same-state, same-situation) = no-steps c in (sym (e ∙ append-nil ls), same-state, same-situation)
         go (n ∷ ns, e, c) = absurd (omega (arith, simp length-append at (ap length e)))
 
-    -- No execution is longer than one that comes to a place with no step.
+    -- If an execution reaches a place that no step leaves, no execution from the same beginning is longer.
     pub longest :
         {ls ms : List Label} {q q₁ q₂ : P .State} {s s₁ s₂ : D .Situation} →
         T* D P ls q s q₁ s₁ → Halted q₁ s₁ → T* D P ms q s q₂ s₂ → length ms ≤ length ls
@@ -161,7 +162,7 @@ module _ (D : ActionTheory) (P : Plan) where
         go (yes h) = after (shared-chain (execution→chain a) (execution→chain b) h)
         go (no h) = omega arith
 
-    -- An execution that comes to a place with no step does not go on for ever.
+    -- If an execution reaches a place that no step leaves, it does not go on for ever.
     pub halted-not-forever :
         {ls : List Label} {q q₁ : P .State} {s s₁ : D .Situation} →
         T* D P ls q s q₁ s₁ → Halted q₁ s₁ → ¬ (Forever D P q s)

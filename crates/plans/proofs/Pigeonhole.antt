@@ -1,13 +1,13 @@
--- The pigeonhole principle over native numbers, with the two places found: of n + 1 numbers below n two are equal. By induction:
--- where the last number stands at an earlier place too, these are the two places; where it does not, it takes the place of the
--- largest value among the earlier numbers, which are then one fewer and have one value fewer.
+-- The pigeonhole principle for native numbers, with the two places given: of n + 1 numbers below n, two are equal. The proof is by
+-- induction. If the last number also stands at an earlier place, these are the two places. If not, it replaces the largest value
+-- among the earlier numbers; this leaves one number fewer, and one possible value fewer.
 use mathlib.Core.Path.{_≡_, sym, ap, _∙_}
 use mathlib.Core.Logic.{_⊎_, inl, inr, ⊎-elim, _≢_}
 use Prim.Native.Nat.{ℕ, zero, suc, _≤_, _<_}
 use native.Mathlib.Decide.{ℕ-discrete}
 use native.Mathlib.Omega.{arith}
 
--- Two places up to n at which f is the same.
+-- Two different places, neither above n, at which f has the same value.
 pub record Repeat (f : ℕ → ℕ) (n : ℕ) : Type 0 where
   pub earlier : ℕ
   pub later : ℕ
@@ -21,7 +21,7 @@ Found f v n = (i : ℕ) × (i < n) × (f i ≡ v)
 abbrev Missing : (ℕ → ℕ) → ℕ → ℕ → Type 0
 Missing f v n = (i : ℕ) → i < n → f i ≢ v
 
--- The value v stands at a place below n, or at none.
+-- The value v stands at some place below n, or at none.
 find-value : (f : ℕ → ℕ) (v n : ℕ) → Found f v n ⊎ Missing f v n
 find-value f v zero = inr (λ i h. omega arith)
 find-value f v (suc n) = go (find-value f v n) (ℕ-discrete (f n) v)
@@ -35,7 +35,7 @@ find-value f v (suc n) = go (find-value f v n) (ℕ-discrete (f n) v)
     go (inr missing) (yes e) = inl (n, omega arith, e)
     go (inr missing) (no d) = inr (λ i h. at-last missing d i h (ℕ-discrete i n))
 
--- x, with v for the value n.
+-- x, but v if x is n.
 replaced : (v n x : ℕ) → Dec (x ≡ n) → ℕ
 replaced v n x (yes e) = v
 replaced v n x (no d) = x
@@ -74,7 +74,7 @@ module _ (n : ℕ) (f : ℕ → ℕ) (bounded : (i : ℕ) → i ≤ suc n → f 
                 (ℕ-discrete (f (r .earlier)) n) (ℕ-discrete (f (r .later)) n) (r .same);
           }
 
--- Of n + 1 numbers below n two are equal.
+-- Of n + 1 numbers below n, two are equal.
 pub pigeonhole : (n : ℕ) (f : ℕ → ℕ) → ((i : ℕ) → i ≤ n → f i < n) → Repeat f n
 pigeonhole zero f bounded = absurd (let b = bounded 0 (omega arith) in omega arith)
 pigeonhole (suc n) f bounded = ⊎-elim found (λ new. fewer n f bounded new (pigeonhole n)) (find-value f (f (suc n)) (suc n))

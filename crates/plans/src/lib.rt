@@ -1,1 +1,1 @@
-// Plans and their execution, as source document 001 defines them. All of it is definitions, in specs/: there is no code here.
+// Plans and their execution as 001 defines them. There are definitions (specs/) and their laws (proofs/), and no code.

@@ -1,96 +1,70 @@
-// The run and the one-lamp walk on the bench cases of document 01 and on small jobs: prints what they answer.
+// The run and the one-lamp walk on the bench cases of 01 and on small jobs: prints their answers.
 ghost use mathlib.Core.Path.{_≡_};
 ghost use lib.ListN.{length};
-use bench_jobs::bench;
-use bench_jobs::five_states;
+use bench_line::bench;
+use bench_line::bench_with;
+use bench_line::five_states;
+use case_printing::print_counted;
+use case_printing::print_name;
+use case_printing::print_number;
+use case_printing::print_refused;
+use case_printing::print_text;
 use lamp_line::Ending;
-use lamp_line::FailureKind;
 use lamp_line::ProgramState;
 use lamp_line::WorldState;
+use lamp_line::failure_number;
 use lamp_walk::WalkAnswer;
-use libc::STDOUT_FILENO;
 use line_run::RunAnswer;
 
-fn print_number(n: u64) {
-    io::write_all(STDOUT_FILENO, b" ");
-    io::print_decimal(STDOUT_FILENO, n);
-}
-
-fn kind_number(kind: FailureKind) -> u64 {
-    match kind {
-        FailureKind::NotLegal => 1,
-        FailureKind::NoBranch => 2,
-        FailureKind::Circles => 3,
-        FailureKind::GoalFalse => 4,
-    }
-}
-
-fn print_ending(ending: Ending) {
+// An ending, with the number of counted steps before it.
+fn print_ended(ending: Ending, steps: u32) {
     match ending {
-        Ending::Goal => {
-            io::write_all(STDOUT_FILENO, b" goal");
-        }
-        Ending::Failure(kind) => {
-            io::write_all(STDOUT_FILENO, b" failure");
-            print_number(kind_number(kind));
-        }
+        Ending::Goal => print_text(b" goal"),
+        Ending::Failure(kind) => print_counted(b" failure", failure_number(kind) as u64),
     }
+    print_counted(b" with", steps as u64);
 }
 
+// A run's answer.
 fn print_run(answer: RunAnswer) {
     match answer {
-        RunAnswer::Ended(ending, steps) => {
-            print_ending(ending);
-            io::write_all(STDOUT_FILENO, b" with");
-            print_number(steps as u64);
-        }
-        RunAnswer::Stopped(limit) => {
-            io::write_all(STDOUT_FILENO, b" stopped");
-            print_number(limit as u64);
-        }
-        RunAnswer::Refused(number) => {
-            io::write_all(STDOUT_FILENO, b" refused");
-            print_number(number as u64);
-        }
+        RunAnswer::Ended(ending, steps) => print_ended(ending, steps),
+        RunAnswer::Stopped(limit) => print_counted(b" stopped", limit as u64),
+        RunAnswer::Refused(number) => print_refused(number),
     }
 }
 
+// Runs a line and prints the answer.
 fn run(name: &[u8], file: &[u8], start: u8, line: &[u8], limit: u32) {
-    io::write_all(STDOUT_FILENO, name);
-    io::write_all(STDOUT_FILENO, b":");
+    print_name(name);
     print_run(line_run::run_line(file, WorldState(start), line, limit));
-    io::write_all(STDOUT_FILENO, b"\n");
+    print_text(b"\n");
 }
 
+// The pair on arriving at the next lamp or at the line's end, with the number of steps.
+fn print_arrived(state: ProgramState, world: WorldState, steps: u32) {
+    print_counted(b" arrived", state.0 as u64);
+    print_number(world.0 as u64);
+    print_counted(b" with", steps as u64);
+}
+
+// The answer of a walk at one lamp.
 fn print_walk(answer: WalkAnswer) {
     match answer {
-        WalkAnswer::Ended(ending, steps) => {
-            print_ending(ending);
-            io::write_all(STDOUT_FILENO, b" with");
-            print_number(steps as u64);
-        }
-        WalkAnswer::Arrived(state, world, steps) => {
-            io::write_all(STDOUT_FILENO, b" arrived");
-            print_number(state.0 as u64);
-            print_number(world.0 as u64);
-            io::write_all(STDOUT_FILENO, b" with");
-            print_number(steps as u64);
-        }
-        WalkAnswer::Refused(number) => {
-            io::write_all(STDOUT_FILENO, b" refused");
-            print_number(number as u64);
-        }
+        WalkAnswer::Ended(ending, steps) => print_ended(ending, steps),
+        WalkAnswer::Arrived(state, world, steps) => print_arrived(state, world, steps),
+        WalkAnswer::Refused(number) => print_refused(number),
     }
 }
 
+// Walks from a pair at one lamp and prints the answer.
 fn walk(name: &[u8], file: &[u8], state: u8, world: u8, column: u8) {
-    io::write_all(STDOUT_FILENO, name);
-    io::write_all(STDOUT_FILENO, b":");
+    print_name(name);
     print_walk(lamp_walk::walk_lamp(file, ProgramState(state), WorldState(world), column));
-    io::write_all(STDOUT_FILENO, b"\n");
+    print_text(b"\n");
 }
 
-// One program state, which is met in worlds 0, 1 and 2 and left from world 2.
+// One program state, which is met in worlds 0, 1 and 2 in turn; the plan ends from world 2.
 fn counting() -> [u8; 53]
     ensures { λ r. ⌜ 53 ≡ length r ⌝ }
 {
@@ -122,6 +96,7 @@ fn at_once() -> [u8; 36]
     ]
 }
 
+// The bench cases on bench line G itself.
 fn bench_runs(g: &[u8]) {
     run(b"empty line", g, 0, b"", 100);
     run(b"[1]", g, 0, b"\x01", 100);
@@ -132,28 +107,49 @@ fn bench_runs(g: &[u8]) {
     run(b"five lamps", g, 0, b"\x01\x01\x01\x01\x01", 100);
 }
 
-fn variants() {
-    let mut file = bench();
-    file[121] = 3;
-    run(b"state 1 to 3,3, [2]", &file, 0, b"\x02", 100);
-    let mut file = bench();
-    file[118] = 0;
-    run(b"state 0 to 4,0, [1]", &file, 0, b"\x01", 100);
-    run(b"the same, limit 12", &file, 0, b"\x01", 12);
-    run(b"the same, limit 11", &file, 0, b"\x01", 11);
-    let mut file = bench();
-    file[117] = 255;
-    run(b"state 0 to none,1, empty line, limit 0", &file, 0, b"", 0);
-    let mut file = bench();
-    file[5] = 4;
-    run(b"first state 4, [1]", &file, 0, b"\x01", 100);
-    run(b"first state 4, empty line, limit 0", &file, 0, b"", 0);
-    let mut file = bench();
-    file[5] = 1;
-    run(b"first state 1, empty line, limit 0", &file, 0, b"", 0);
+// The bench case of a plan that circles.
+fn circling(file: &[u8]) {
+    run(b"state 0 to 4,0, [1]", file, 0, b"\x01", 100);
+    run(b"the same, limit 12", file, 0, b"\x01", 12);
+    run(b"the same, limit 11", file, 0, b"\x01", 11);
+}
+
+// The bench cases with another first state.
+fn first_states() {
+    let final_first = bench_with(5, 4);
+    run(b"first state 4, [1]", &final_first, 0, b"\x01", 100);
+    run(
+        b"first state 4, empty line, limit 0",
+        &final_first,
+        0,
+        b"",
+        0,
+    );
+    run(
+        b"first state 1, empty line, limit 0",
+        &bench_with(5, 1),
+        0,
+        b"",
+        0,
+    );
+}
+
+// The bench cases with another plan.
+fn other_plans() {
+    run(b"state 1 to 3,3, [2]", &bench_with(121, 3), 0, b"\x02", 100);
+    circling(&bench_with(118, 0));
+    run(
+        b"state 0 to none,1, empty line, limit 0",
+        &bench_with(117, 255),
+        0,
+        b"",
+        0,
+    );
+    first_states();
     run(b"five states, [1,1]", &five_states(), 0, b"\x01\x01", 100);
 }
 
+// Small jobs whose runs end at once, or as late as possible.
 fn small_jobs() {
     run(
         b"a state that comes again with other worlds",
@@ -167,6 +163,7 @@ fn small_jobs() {
     run(b"final at once, empty line", &at_once(), 0, b"", 0);
 }
 
+// Starts and lines that are refused.
 fn refusals(g: &[u8]) {
     run(b"kind 0", g, 0, b"\x01\x00", 100);
     run(b"kind above C", g, 0, b"\x01\x03", 100);
@@ -175,12 +172,17 @@ fn refusals(g: &[u8]) {
     run(b"start not marked and kind 9", g, 1, b"\x09", 100);
 }
 
+// A refusal that wins over another, and one that wins over an ending that the run would reach first.
 fn whole_file_and_line_first() {
-    let mut file = bench();
-    file[107] = 2;
-    run(b"goal byte 2, start not marked", &file, 1, b"\x01", 100);
     run(
-        b"a bad kind behind the end of the run",
+        b"goal byte 2, start not marked",
+        &bench_with(107, 2),
+        1,
+        b"\x01",
+        100,
+    );
+    run(
+        b"a bad kind after the end of the run",
         &at_once(),
         0,
         b"\x01\x09",
@@ -188,21 +190,26 @@ fn whole_file_and_line_first() {
     );
 }
 
-fn long_lines() {
-    let g = bench();
+// The longest line, and one that is too long.
+fn long_lines(g: &[u8]) {
     let line = [1u8; 65535];
-    run(b"65,535 lamps", &g, 0, &line, 4294967295);
-    run(b"65,535 lamps, limit 1,000", &g, 0, &line, 1000);
+    run(b"65,535 lamps", g, 0, &line, 4294967295);
+    run(b"65,535 lamps, limit 1,000", g, 0, &line, 1000);
     let longer = [1u8; 65536];
-    run(b"65,536 lamps", &g, 0, &longer, 4294967295);
+    run(b"65,536 lamps", g, 0, &longer, 4294967295);
 }
 
+// Walks at one lamp of bench line G.
 fn walks(g: &[u8]) {
     walk(b"walk from 0 in world 0 at kind 1", g, 0, 0, 1);
     walk(b"walk from 0 in world 0 at kind 2", g, 0, 0, 2);
     walk(b"walk from 0 in world 0 at the end", g, 0, 0, 0);
     walk(b"walk from 3 in world 2 at the end", g, 3, 2, 0);
     walk(b"walk from 2 in world 1 at kind 1", g, 2, 1, 1);
+}
+
+// Walks from numbers that are refused.
+fn refused_walks(g: &[u8]) {
     walk(b"walk in world 3", g, 0, 3, 1);
     walk(b"walk at column 3", g, 0, 0, 3);
     walk(b"walk from state 5", g, 5, 0, 0);
@@ -212,10 +219,11 @@ fn walks(g: &[u8]) {
 fn main() {
     let g = bench();
     bench_runs(&g);
-    variants();
+    other_plans();
     small_jobs();
     refusals(&g);
     whole_file_and_line_first();
-    long_lines();
+    long_lines(&g);
     walks(&g);
+    refused_walks(&g);
 }

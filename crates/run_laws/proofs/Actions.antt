@@ -1,5 +1,5 @@
--- One action of the run and one step of the execution are the same thing: what the action comes to says how the execution goes on
--- from there or ends, and an execution ends in one way, at a place from which there is no step.
+-- One action of the run is one step of the execution: the result of the action says how the execution goes on from there, or how it
+-- ends. An execution ends in only one way, and no step leaves the place where it ends.
 use mathlib.Core.Path.{_≡_, refl, sym, ap, subst}
 use mathlib.Core.Logic.{_≢_, inl}
 use mathlib.Core.Bool.{Bool, true, false, cond}
@@ -17,14 +17,15 @@ use Rattle.lamp_line.specs.declared.FailureKind.the-variants.{NotLegal, NoBranc
 use Rattle.lamp_line.specs.declared.Ending.{Ending}
 use Rattle.lamp_line.specs.declared.Ending.the-variants.{Goal, Failure}
 use Rattle.lamp_line.specs.Lists.{_∈_}
-use Rattle.lamp_line.specs.Tables.{Outcome, outcome, Tables, Line, Situation, WellFormed, programState, final, movesOn, column}
+use Rattle.lamp_line.specs.Tables.{Outcome, outcome, Tables, Line, Situation, programState, final, movesOn, column}
+use Rattle.lamp_line.specs.inner.WellFormed.{WellFormed}
 use Rattle.lamp_line.specs.Tables.{passed, restAfter, lampTheory, lampProblem, planOf}
 use Rattle.lamp_line.specs.Endings.{Ends}
 use Rattle.lamp_line.specs.Check.{situation}
-use Rattle.lamp_line.specs.Run.{Pair, pair, Move, ends, stays, passes, isFinal, judged, branched, tried, act}
+use Rattle.lamp_line.specs.Run.{Pair, pair, Move, ends, stays, passes, isFinal, judged, branched, carriedOut, act}
 use Rattle.plans.proofs.Executions.{Halted}
-use Rattle.run_laws.specs.Pairs.{InRange}
-use Rattle.run_laws.specs.Lines.{lineOf}
+use Rattle.run_laws.specs.inner.Pairs.{InRange}
+use Rattle.run_laws.specs.inner.Lines.{lineOf}
 use Rattle.run_laws.proofs.Steps.{none-in-empty, one-outcome, step-in-range}
 
 -- The first of a list is in it.
@@ -38,7 +39,7 @@ false-unless-true true h = absurd (h refl)
 false-unless-true false h = refl
 
 module _ (t : Tables) where
-  -- A step from a pair and a line, and the execution there with its labels.
+  -- A step from a pair on a line to a pair on a line, and an execution with these labels.
   abbrev pub StepAt : Pair → Line → Label → Pair → Line → Type 0
   StepAt p line l p′ line′ =
       Step (lampTheory t) (planOf t) (p .state) (situation (p .world) line) l (p′ .state) (situation (p′ .world) line′)
@@ -47,17 +48,17 @@ module _ (t : Tables) where
   ExecutionAt p line ls p′ line′ =
       T* (lampTheory t) (planOf t) ls (p .state) (situation (p .world) line) (p′ .state) (situation (p′ .world) line′)
 
-  -- The execution has come to rest at a pair and a line.
+  -- The execution is at rest with this ending, at a pair on a line.
   abbrev pub EndsAt : Ending → Pair → Line → Type 0
   EndsAt x p line = Ends (lampProblem t) (planOf t) x (p .state) (situation (p .world) line)
 
-  -- What a move says of the execution.
+  -- What the result of an action says about the execution.
   unfoldable pub MoveMeans : Pair → Line → Move → Type 0
   MoveMeans p line (ends x) = EndsAt x p line
   MoveMeans p line (stays p′) = (l : Label) × StepAt p line l p′ line
   MoveMeans p line (passes p′) = (l : Label) × StepAt p line l p′ (passed line) × (movesOn t (actionOf l) ≡ true)
 
-  -- The outcomes of the action of a program state, in a world state and at the present column of a line.
+  -- The outcomes of the program state's action, in a world state, at the present column of a line.
   abbrev outcomes : ProgramState → WorldState → Line → List Outcome
   outcomes q w line = t .cell (t .action q) w (column t line)
 
@@ -66,7 +67,7 @@ module _ (t : Tables) where
   unfolding act
   act-final p c e = rw e
 
-  -- ---- what the action comes to is how the execution goes on or ends
+  -- ---- the result of the action says how the execution goes on or ends
 
   module _ (p : Pair) (line : Line) where
     means-judged :
@@ -101,14 +102,14 @@ module _ (t : Tables) where
       means-branched w r more e (some q) f false m = rw m (did (t .action (p .state)) r, step-made e f (rw m))
 
       means-tried :
-          (found : List Outcome) → outcomes (p .state) (p .world) line ≡ found → MoveMeans p line (tried t (p .state) found)
+          (found : List Outcome) → outcomes (p .state) (p .world) line ≡ found → MoveMeans p line (carriedOut t (p .state) found)
       unfolding MoveMeans Ends
       means-tried [] e =
           (live, λ (r, s′, does). none-in-empty (outcome (s′ .world) r) (outcomes (p .state) (p .world) line) e (does .0))
       means-tried (outcome w r ∷ more) e =
           means-branched w r more e (t .target (p .state) r) refl (movesOn t (t .action (p .state))) refl
 
-    -- What the action comes to is true of the execution.
+    -- What the result of the action says is true of the execution.
     pub act-means : MoveMeans p line (act t p (column t line))
     unfolding act
     act-means = go (isFinal t (p .state)) refl
@@ -116,7 +117,7 @@ module _ (t : Tables) where
         go :
             (b : Bool) → isFinal t (p .state) ≡ b →
             MoveMeans p line
-            (cond b (ends (judged t (p .world) (column t line))) (tried t (p .state) (outcomes (p .state) (p .world) line)))
+            (cond b (ends (judged t (p .world) (column t line))) (carriedOut t (p .state) (outcomes (p .state) (p .world) line)))
         go true e =
             means-judged (ap programState (eqb-true (p .state .0) (t .states) e)) (t .goal (p .world) (column t line)) refl
         go false e =
@@ -125,7 +126,7 @@ module _ (t : Tables) where
 
   -- ---- where the execution ends
 
-  -- The test for the final state is true there, and false elsewhere.
+  -- The test for the final state answers true for it, and false for any other.
   pub is-final : (q : ProgramState) → q ≡ final t → isFinal t q ≡ true
   is-final q e = eq-eqb (q .0) (t .states) (ap (λ q. q .0) e)
 
@@ -133,13 +134,13 @@ module _ (t : Tables) where
   not-final q live = ne-eqb (q .0) (t .states) (λ e. live (ap programState e))
 
   module _ (wf : WellFormed t) where
-    -- An outcome of the action is its only one.
+    -- The action has at most one outcome.
     only-outcome :
         (q : ProgramState) (s : Situation) (w : WorldState) (r : Result) → outcome w r ∈ outcomes q (s .world) (s .rest) →
         outcomes q (s .world) (s .rest) ≡ outcome w r ∷ []
     only-outcome q s = one-outcome t wf (t .action q) (s .world) (column t (s .rest))
 
-    -- Where the execution ends there is no step.
+    -- No step leaves the place where the execution ends.
     pub ends-halted :
         (x : Ending) (q : ProgramState) (s : Situation) → Ends (lampProblem t) (planOf t) x q s →
         Halted (lampTheory t) (planOf t) q s
@@ -154,7 +155,7 @@ module _ (t : Tables) where
     ends-halted (Failure Circles) q s h l q′ s′ x = h
     ends-halted (Failure GoalFalse) q s (e, goal) l q′ s′ x = x .live e
 
-    -- Where the execution ends, the action ends the run in the same way.
+    -- Where the execution ends, the run's action ends the run with the same ending.
     ends-acts :
         (x : Ending) (q : ProgramState) (s : Situation) → Ends (lampProblem t) (planOf t) x q s →
         act t (pair q (s .world)) (column t (s .rest)) ≡ ends x
@@ -162,7 +163,7 @@ module _ (t : Tables) where
     ends-acts Goal q s (e, goal) = rw (is-final q e, goal)
     ends-acts (Failure NotLegal) q s (live, illegal) = rw (not-final q live) (go (outcomes q (s .world) (s .rest)) refl)
       where
-        go : (found : List Outcome) → outcomes q (s .world) (s .rest) ≡ found → tried t q found ≡ ends (Failure NotLegal)
+        go : (found : List Outcome) → outcomes q (s .world) (s .rest) ≡ found → carriedOut t q found ≡ ends (Failure NotLegal)
         go [] e = refl
         go (outcome w r ∷ more) e =
             let rest = restAfter t (t .action q) (s .rest) in
@@ -173,7 +174,7 @@ module _ (t : Tables) where
     ends-acts (Failure GoalFalse) q s (e, goal) =
         rw (is-final q e, false-unless-true (t .goal (s .world) (column t (s .rest))) goal)
 
-    -- The execution ends in one way.
+    -- The execution ends in only one way at a place.
     pub one-ending :
         (x x′ : Ending) (q : ProgramState) (s : Situation) →
         Ends (lampProblem t) (planOf t) x q s → Ends (lampProblem t) (planOf t) x′ q s → x ≡ x′
@@ -181,7 +182,7 @@ module _ (t : Tables) where
 
     -- ---- where an action stays
 
-    -- An action that stays comes to a pair of the tables.
+    -- An action that stays at the lamp leads to a pair of the tables.
     pub stays-in-range : (p p′ : Pair) (c : ℕ) → stays p′ ≡ act t p c → InRange t p′
     unfolding MoveMeans
     stays-in-range p p′ c e =

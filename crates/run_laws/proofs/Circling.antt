@@ -1,5 +1,5 @@
 -- Failure 3: a walk that has made S·W steps at one lamp and is not in the final state stays there for ever. Of the S·W + 1 pairs
--- that it has come to, two are the same; so every later pair is one of the earlier ones, from which the action stays.
+-- that it has met, two are equal. So every later pair is one of the earlier ones, and from those the action stays.
 use mathlib.Core.Path.{_≡_, refl, sym, ap, subst, _∙_}
 use mathlib.Core.Logic.{_≢_}
 use mathlib.Core.List.{List}
@@ -9,26 +9,27 @@ use native.Mathlib.Omega.{arith}
 use lib.ListN.{length}
 use Rattle.plans.specs.Execution.{Label, T*, Forever}
 use Rattle.lamp_line.specs.declared.ProgramState.{ProgramState}
-use Rattle.lamp_line.specs.Tables.{Tables, Line, Situation, WellFormed, programState, final, column, lampTheory, planOf}
+use Rattle.lamp_line.specs.Tables.{Tables, Line, Situation, programState, final, column, lampTheory, planOf}
+use Rattle.lamp_line.specs.inner.WellFormed.{WellFormed}
 use Rattle.lamp_line.specs.Check.{situation}
 use Rattle.lamp_line.specs.Run.{Pair, Move, ends, stays, passes, act}
 use Rattle.plans.proofs.Pigeonhole.{Repeat, pigeonhole}
 use Rattle.plans.proofs.Executions.{first-steps, same-length-same-execution}
-use Rattle.run_laws.specs.Pairs.{InRange, pairNumber}
+use Rattle.run_laws.specs.inner.Pairs.{InRange, pairNumber}
 use Rattle.run_laws.proofs.Pairs.{pair-number-bound, pair-number-injective}
 use Rattle.run_laws.proofs.Steps.{steps-determined}
 use Rattle.run_laws.proofs.Actions.{StepAt, MoveMeans, is-final, act-final, act-means, stays-in-range}
 use Rattle.run_laws.proofs.Walks.{Lingers, not-ended, stays-on}
 
--- The pair after an action that stays, and the pair itself after any other.
+-- The pair after an action that stays; after any other action, the same pair as before.
 abbrev stayed : Pair → Move → Pair
 stayed p (ends x) = p
 stayed p (stays p′) = p′
 stayed p (passes p′) = p
 
 module _ (t : Tables) (c : ℕ) where
-  -- The pair after i actions that stay at the column c. The laws say that it begins at p, that after an action that stays it goes
-  -- on as from the next pair, and that from the same pair it goes on in the same way.
+  -- The pair after i actions at the column c, if they stay. The next three laws say that it begins at p, that after one action it
+  -- goes on as from the next pair, and that from equal pairs it goes on equally.
   orbit : Pair → ℕ → Pair
   orbit p zero = p
   orbit p (suc i) = stayed (orbit p i) (act t (orbit p i) c)
@@ -46,7 +47,7 @@ module _ (t : Tables) (c : ℕ) where
   unfolding orbit
   orbit-next p i j e = ap (λ p′. stayed p′ (act t p′ c)) e
 
-  -- Of n actions in a row that stay each stays, and none of the pairs is final.
+  -- If a walk lingers for n actions, each of them stays, and none of the pairs has the final state.
   lingers-stays : {n : ℕ} {p : Pair} → Lingers t c n p → (i : ℕ) → i < n → act t (orbit p i) c ≡ stays (orbit p (suc i))
   lingers-stays (not-ended live) i h = absurd (omega arith)
   lingers-stays (stays-on {p = p} {p′ = p′} e r) zero h = rw (orbit-after p p′ e 0, orbit-begins p, orbit-begins p′) e
@@ -86,7 +87,7 @@ module _
       let differs : pairAfter i .state .0 ≢ t .states = λ e. lingers-live t (column t line) lingers i h (ap programState e) in
       omega arith
 
-  -- Two of the pairs are the same.
+  -- Two of the pairs are equal.
   meeting : Repeat (λ i. pairNumber (t .worlds) (pairAfter i)) (t .states * t .worlds)
   meeting =
       pigeonhole (t .states * t .worlds) (λ i. pairNumber (t .worlds) (pairAfter i))
@@ -99,7 +100,7 @@ module _
       (pairs-in-range (m .earlier) (omega arith) .world-range) (pairs-in-range (m .later) (m .in-range) .world-range)
       (m .same)
 
-  -- Every pair, however late, is one of those before the second meeting.
+  -- Every pair, however late, is one of those before the second of the two equal ones.
   seen-before : (i : ℕ) → (j : ℕ) × (j < meeting .later) × (pairAfter i ≡ pairAfter j)
   seen-before zero = (0, omega (arith, meeting .in-order), refl)
   seen-before (suc i) = go (seen-before i)

@@ -7,4 +7,5 @@ pub mod RunComes
 pub mod RunIsExecution
 pub mod Runs
 pub mod Steps
+pub mod WalkIsExecution
 pub mod Walks

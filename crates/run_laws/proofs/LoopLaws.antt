@@ -1,5 +1,5 @@
--- Laws for loops that count their steps upward: what such a loop still owes of the walk at one lamp, and of the run along the
--- line. The laws say "k + 1", and have the answer on the left of an equation, as code has them.
+-- Laws for loops that count their steps upwards: how the walk at one lamp, or the run along the line, is given by what such a loop
+-- has still to do. Their forms fit the code: they say "k + 1", and have the answer on the left of the equation.
 use mathlib.Core.Path.{_≡_, refl, sym, ap, _∙_}
 use mathlib.Core.Bool.{cond}
 use mathlib.Core.List.{List, [], _∷_}
@@ -14,7 +14,7 @@ use Rattle.lamp_line.specs.declared.Ending.the-variants.{Failure}
 use Rattle.lamp_line.specs.Tables.{Tables, column}
 use Rattle.lamp_line.specs.Run.{Pair, ends, stays, passes, Walk, ended, arrived, Run, ran, stopped}
 use Rattle.lamp_line.specs.Run.{ownSteps, isFinal, judged, act, walk, lampWalk, along, limited}
-use Rattle.run_laws.specs.Lines.{lineOf}
+use Rattle.run_laws.specs.inner.Lines.{lineOf}
 use Rattle.run_laws.proofs.Walks.{walkAfter, walk-spent, walk-ends, walk-stays, walk-passes}
 use Rattle.run_laws.proofs.Runs.{runAfter, along-ends, along-passes}
 
@@ -34,7 +34,7 @@ run-after-none (ran x n) = ap (ran x) (omega arith)
 
 -- ---- the walk at one lamp
 
--- A loop for the walk of n steps from p₀ has counted k steps and stands at p.
+-- A loop for the walk of n steps from p₀ has counted k steps and is at p.
 unfoldable pub WalkOwes : Tables → ℕ → ℕ → Pair → ℕ → Pair → Type 0
 WalkOwes t n c p₀ k p = walk t n p₀ c ≡ walkAfter k (walk t (n - k) p c)
 
@@ -59,11 +59,11 @@ module _ (t : Tables) (n c : ℕ) (p₀ : Pair) where
     pub walk-owes-passes : k < n → (p′ : Pair) → passes p′ ≡ act t p c → arrived p′ (k + 1) ≡ walk t n p₀ c
     walk-owes-passes h p′ e = sym (owed-turn h ∙ (rw (walk-passes t (n - (k + 1)) p p′ c (sym e))))
 
-    -- The action ends the run: the walk is done, with the steps that the ending counts.
+    -- The action ends the run: the walk is done, with the steps that the ending adds.
     pub walk-owes-ends : k < n → (x : Ending) → ends x ≡ act t p c → ended x (k + ownSteps x) ≡ walk t n p₀ c
     walk-owes-ends h x e = sym (owed-turn h ∙ (rw (walk-ends t (n - (k + 1)) p c x (sym e))))
 
-    -- All n steps are counted: the run ends, as it does in the final state or else with failure 3.
+    -- All n steps are counted: the walk ends, as the goal decides in the final state, else with failure 3.
     pub walk-owes-spent :
         n ≤ k → ended (cond (isFinal t (p .state)) (judged t (p .world) c) (Failure Circles)) k ≡ walk t n p₀ c
     unfolding WalkOwes
@@ -73,7 +73,7 @@ module _ (t : Tables) (n c : ℕ) (p₀ : Pair) where
 
 -- ---- the run along the line
 
--- A loop for the run from p₀ along lamps₀ has counted k steps and stands at p with these lamps left.
+-- A loop for the run from p₀ along lamps₀ has counted k steps and is at p, with these lamps left.
 unfoldable pub RunOwes : Tables → ℕ → List ℕ → Pair → ℕ → List ℕ → Pair → Type 0
 RunOwes t end lamps₀ p₀ k lamps p = along t end lamps₀ p₀ ≡ runAfter k (along t end lamps p)
 
@@ -84,7 +84,7 @@ module _ (t : Tables) (end : ℕ) (lamps₀ : List ℕ) (p₀ : Pair) where
   run-owes-start = sym (run-after-none (along t end lamps₀ p₀))
 
   module _ (k : ℕ) (lamps : List ℕ) (p : Pair) (owes : RunOwes t end lamps₀ p₀ k lamps p) where
-    -- The walk passes the lamp: the run goes on behind it.
+    -- The walk passes the lamp: the run goes on with the lamps after it.
     pub run-owes-passes :
         0 < length lamps → (p′ : Pair) (j : ℕ) → arrived p′ j ≡ lampWalk t p (column t (lineOf end lamps)) →
         RunOwes t end lamps₀ p₀ (k + j) (drop 1 lamps) p′

@@ -1,4 +1,5 @@
--- Of one execution one ending and one count are true: it comes to rest at one place, or goes on for ever from one last arrival.
+-- The execution of a line has only one ending and one count: it comes to rest at one place only, or goes on for ever after one last
+-- arrival.
 use mathlib.Core.Path.{_≡_, refl, sym, ap, subst₂, _∙_}
 use mathlib.Core.Logic.{_⊎_, inl, inr, ⊎-elim}
 use mathlib.Core.Bool.{true}
@@ -13,11 +14,13 @@ use Rattle.lamp_line.specs.declared.WorldState.{WorldState}
 use Rattle.lamp_line.specs.declared.FailureKind.the-variants.{NotLegal, NoBranch, Circles, GoalFalse}
 use Rattle.lamp_line.specs.declared.Ending.{Ending}
 use Rattle.lamp_line.specs.declared.Ending.the-variants.{Goal, Failure}
-use Rattle.lamp_line.specs.Tables.{Tables, WellFormed, Line, movesOn, lampTheory, lampProblem, planOf}
+use Rattle.lamp_line.specs.Tables.{Tables, Line, movesOn, lampTheory, lampProblem, planOf}
+use Rattle.lamp_line.specs.inner.WellFormed.{WellFormed}
 use Rattle.lamp_line.specs.Endings.{Ends}
 use Rattle.lamp_line.specs.Check.{situation, Arrival}
 use Rattle.lamp_line.specs.Run.{ownSteps}
-use Rattle.lamp_line.specs.Promises.{Run-of, RestsAfter, CirclesAfter, Comes}
+use Rattle.lamp_line.specs.Tables.{Beginning}
+use Rattle.lamp_line.specs.Executions.{RestsAfter, CirclesAfter, Comes}
 use Rattle.plans.proofs.Executions.{LastStep, last-step, forever-before, shared-beginning}
 use Rattle.plans.proofs.Executions.{same-length-same-execution, Halted, longest, halted-not-forever}
 use Rattle.run_laws.proofs.Steps.{steps-determined, end-kept, step-passes}
@@ -31,7 +34,7 @@ module _ (t : Tables) (wf : WellFormed t) (start : WorldState) (line : Line) whe
   abbrev P : Plan
   P = planOf t
 
-  -- An execution comes to rest, or it circles.
+  -- An execution with an ending and a count comes to rest, or it circles.
   rests-or-circles :
       (x : Ending) (k : ℕ) → Comes t x k start line →
       RestsAfter t x k start line ⊎ ((x ≡ Failure Circles) × CirclesAfter t k start line)
@@ -44,11 +47,11 @@ module _ (t : Tables) (wf : WellFormed t) (start : WorldState) (line : Line) whe
 
   -- ---- coming to rest
 
-  -- No execution goes on from where one has come to rest.
+  -- No step leaves the place where an execution has come to rest.
   halted : {x : Ending} {k : ℕ} (r : RestsAfter t x k start line) → Halted D P (r .state) (r .at)
   halted {x} r = ends-halted t wf x (r .state) (r .at) (r .ends)
 
-  -- One execution that comes to rest is no longer than another, and so they are one.
+  -- Of two executions that come to rest, neither is longer than the other; so they are equal.
   not-longer :
       {x x′ : Ending} {k k′ : ℕ} (r : RestsAfter t x k start line) (r′ : RestsAfter t x′ k′ start line) →
       length (r′ .labels) ≤ length (r .labels)
@@ -73,8 +76,8 @@ module _ (t : Tables) (wf : WellFormed t) (start : WorldState) (line : Line) whe
   rests-not-forever : {x : Ending} {k : ℕ} → RestsAfter t x k start line → ¬ (Forever D P (t .first) (situation start line))
   rests-not-forever r = halted-not-forever D P (steps-determined t wf) (r .execution) (halted r)
 
-  module _ (of : Run-of t start line) {k k′ : ℕ} (c : CirclesAfter t k start line) (c′ : CirclesAfter t k′ start line) where
-    -- After the last arrival of c no step moves on.
+  module _ (of : Beginning t start line) {k k′ : ℕ} (c : CirclesAfter t k start line) (c′ : CirclesAfter t k′ start line) where
+    -- After the last arrival of c, no step of c′ moves on.
     no-later-arrival :
         (ms : List Label) (l : Label) → LastStep D P ms l (t .first) (situation start line) (c′ .state) (c′ .at) →
         movesOn t (actionOf l) ≡ true → length (c .labels) ≤ length ms → ⊥
@@ -87,7 +90,7 @@ module _ (t : Tables) (wf : WellFormed t) (start : WorldState) (line : Line) whe
         let h = of .fits .ended in
         omega (arith, step-passes t wf (b .last) moves (rw same-end h))
 
-    -- Neither last arrival is later than the other.
+    -- The last arrival of c′ is not later than that of c.
     not-later : length (c′ .labels) ≤ length (c .labels)
     not-later = go (c′ .arrives)
       where
@@ -99,9 +102,9 @@ module _ (t : Tables) (wf : WellFormed t) (start : WorldState) (line : Line) whe
             at (yes h) = absurd (no-later-arrival ms l (last-step D P ms (rw e at (c′ .execution))) moves h)
             at (no h) = rw e (omega (arith, length-append ms (l ∷ [])))
 
-  -- Of one execution one ending and one count are true.
+  -- The execution of a line has only one ending and one count.
   pub comes-once :
-      Run-of t start line → (x x′ : Ending) (k k′ : ℕ) → Comes t x k start line → Comes t x′ k′ start line → (x ≡ x′) × (k ≡ k′)
+      Beginning t start line → (x x′ : Ending) (k k′ : ℕ) → Comes t x k start line → Comes t x′ k′ start line → (x ≡ x′) × (k ≡ k′)
   comes-once of x x′ k k′ c c′ = go (rests-or-circles x k c) (rests-or-circles x′ k′ c′)
     where
       go :
@@ -113,7 +116,7 @@ module _ (t : Tables) (wf : WellFormed t) (start : WorldState) (line : Line) whe
       go (inr (e, d)) (inr (e′, d′)) =
           (e ∙ sym e′, omega (arith, not-later of d d′, not-later of d′ d, d .count, d′ .count))
 
-  -- An execution that goes on for ever has no ending but failure 3.
+  -- An execution that goes on for ever has no ending other than failure 3.
   pub forever-circles :
       Forever D P (t .first) (situation start line) → (x : Ending) (k : ℕ) → Comes t x k start line → x ≡ Failure Circles
   forever-circles f x k c = ⊎-elim (λ r. absurd (rests-not-forever r f)) (λ (e, d). e) (rests-or-circles x k c)

@@ -1,30 +1,29 @@
--- Pairs of a program state and a world state as numbers: the pairs whose state is not final are numbered below S·W, each with a
--- number of its own.
+-- The arithmetic of pairs: their numbers are below the number of pairs, and the pair is read off its number.
 use mathlib.Core.Path.{_≡_, sym, ap, ap₂, _∙_}
-use Prim.Native.Nat.{ℕ, _+_, _*_, _/_, _<_}
-use native.Mathlib.Nat.{add-zero, mul-le-mul-right, suc-mul, mul-add-div-right, div-eq-of-lt}
+use Prim.Native.Nat.{ℕ, _+_, _*_, _<_}
 use native.Mathlib.Omega.{arith}
-use Rattle.lamp_line.specs.Tables.{programState, worldState}
+use lib.Arith.{digits-lt, digits-div, digits-mod}
+use Rattle.lamp_line.specs.Tables.{Tables, programState, worldState}
 use Rattle.lamp_line.specs.Run.{Pair, pair}
-use Rattle.run_laws.specs.Pairs.{pairNumber}
+use Rattle.run_laws.specs.inner.Pairs.{InRange, pairs, pairNumber, pairOf}
 
--- The number of a pair whose state is not final is below S·W.
+-- The number of a pair whose state is below a bound is below as many rows. With S as the bound the state is not final.
 pub pair-number-bound :
     (states worlds : ℕ) (p : Pair) → p .state .0 < states → p .world .0 < worlds → pairNumber worlds p < states * worlds
 unfolding pairNumber
-pair-number-bound states worlds p h k = omega (arith, mul-le-mul-right worlds h, suc-mul (p .state .0) worlds)
+pair-number-bound states worlds p h k = digits-lt h k
 
--- Pairs with one number are one.
+-- The number of a pair of the tables is below the number of pairs.
+pub pair-number-in : (t : Tables) (p : Pair) → InRange t p → pairNumber (t .worlds) p < pairs t
+pair-number-in t p range = pair-number-bound (t .states + 1) (t .worlds) p (omega (arith, range .state-range)) (range .world-range)
+
+-- The pair with the number of a pair is that pair.
+pub pair-of-number : (worlds : ℕ) (p : Pair) → p .world .0 < worlds → pairOf worlds (pairNumber worlds p) ≡ p
+unfolding pairOf pairNumber
+pair-of-number worlds p h =
+    ap₂ (λ q w. pair (programState q) (worldState w)) (digits-div (p .state .0) h) (digits-mod (p .state .0) h)
+
+-- Pairs with the same number are equal.
 pub pair-number-injective :
     (worlds : ℕ) (p p′ : Pair) → p .world .0 < worlds → p′ .world .0 < worlds → pairNumber worlds p ≡ pairNumber worlds p′ → p ≡ p′
-unfolding pairNumber
-pair-number-injective worlds p p′ h h′ e = ap₂ (λ q w. pair (programState q) (worldState w)) same-state same-world
-  where
-    quotient : (q w : ℕ) → w < worlds → (q * worlds + w) / worlds ≡ q
-    quotient q w k = mul-add-div-right (omega arith) q w ∙ (rw (div-eq-of-lt k) (add-zero q))
-
-    same-state : p .state .0 ≡ p′ .state .0
-    same-state = sym (quotient (p .state .0) (p .world .0) h) ∙ ap (λ n. n / worlds) e ∙ quotient (p′ .state .0) (p′ .world .0) h′
-
-    same-world : p .world .0 ≡ p′ .world .0
-    same-world = omega (arith, ap (λ n. n * worlds) same-state)
+pair-number-injective worlds p p′ h h′ e = sym (pair-of-number worlds p h) ∙ ap (pairOf worlds) e ∙ pair-of-number worlds p′ h′

@@ -1,5 +1,5 @@
--- What the run says is true of the execution. The execution is followed from its beginning: it has come by some steps to a lamp,
--- and what the walk at this lamp says of it is added to them.
+-- What the run says is true of the execution. The proof follows the execution from its beginning: it has reached a lamp by some
+-- steps, and what the walk at this lamp says about it is added to them.
 use mathlib.Core.Path.{_≡_, refl, sym, subst}
 use mathlib.Core.Logic.{inl, inr}
 use mathlib.Core.List.{List, [], _∷_, _++_}
@@ -12,20 +12,22 @@ use Rattle.lamp_line.specs.declared.WorldState.{WorldState}
 use Rattle.lamp_line.specs.declared.FailureKind.the-variants.{NotLegal, NoBranch, Circles, GoalFalse}
 use Rattle.lamp_line.specs.declared.Ending.{Ending}
 use Rattle.lamp_line.specs.declared.Ending.the-variants.{Goal, Failure}
-use Rattle.lamp_line.specs.Tables.{Tables, WellFormed, Line, lampColumn}
+use Rattle.lamp_line.specs.Tables.{Tables, Line, lampColumn}
+use Rattle.lamp_line.specs.inner.WellFormed.{WellFormed}
 use Rattle.lamp_line.specs.Endings.{Ends}
 use Rattle.lamp_line.specs.Check.{situation, Arrival}
 use Rattle.lamp_line.specs.Run.{Pair, pair, Walk, ended, arrived, Run, ran, lampWalk, along, run}
-use Rattle.lamp_line.specs.Promises.{Run-of, Execution, RestsAfter, Comes}
-use Rattle.run_laws.specs.Pairs.{InRange}
+use Rattle.lamp_line.specs.Tables.{Beginning}
+use Rattle.lamp_line.specs.Executions.{Execution, RestsAfter, Comes}
+use Rattle.run_laws.specs.inner.Pairs.{InRange}
 use Rattle.run_laws.proofs.Steps.{execution-in-range}
-use Rattle.run_laws.specs.Lines.{lineOf}
+use Rattle.run_laws.specs.inner.Lines.{lineOf}
 use Rattle.run_laws.proofs.Walks.{WalkMeans, rests, lingers, Arrives, arrives, walk-means, arrived-at-lamp}
 use Rattle.run_laws.proofs.Circling.{lingers-forever, lingers-passes-none}
 use Rattle.run_laws.proofs.Runs.{runAfter, along-ends, along-passes}
 
-module _ (t : Tables) (wf : WellFormed t) (start : WorldState) (line : Line) (of : Run-of t start line) where
-  -- What is left of the line, by its lamps.
+module _ (t : Tables) (wf : WellFormed t) (start : WorldState) (line : Line) (of : Beginning t start line) where
+  -- The rest of the line, by its lamps.
   abbrev rest : List ℕ → Line
   rest lamps = lineOf (line .end) lamps
 
@@ -37,14 +39,14 @@ module _ (t : Tables) (wf : WellFormed t) (start : WorldState) (line : Line) (of
   rests-comes (Failure Circles) k r = absurd (r .ends)
   rests-comes (Failure GoalFalse) k r = r
 
-  -- n steps, and then what a run comes to, are true of the execution.
+  -- After n steps, the ending and the count of a run are true of the execution.
   abbrev RunComes : ℕ → Run → Type 0
   RunComes n (ran x k) = Comes t x (n + k) start line
 
   comes-after : (r : Run) (m n k : ℕ) → m ≡ n + k → RunComes m r → RunComes n (runAfter k r)
   comes-after (ran x j) m n k e h = let f : n + (k + j) ≡ m + j = omega arith in rw f h
 
-  -- The execution has come by the steps ls to p, at the first of these lamps or at the line's end.
+  -- The execution has arrived by the steps ls with the pair p, at the first of these lamps or at the line's end.
   record Comes-to (p : Pair) (lamps : List ℕ) (ls : List Label) : Type 0 where
     pub execution : Execution t start line ls (p .state) (situation (p .world) (rest lamps))
     pub arrival : Arrival t ls
@@ -55,7 +57,7 @@ module _ (t : Tables) (wf : WellFormed t) (start : WorldState) (line : Line) (of
         execution-in-range t wf (came .execution)
         (record { state-range = wf .first-range; world-range = wf .start-range start (of .marked) })
 
-    -- The walk ends the run there.
+    -- The walk at this lamp ends the run.
     ended-comes :
         (x : Ending) (k : ℕ) → WalkMeans t (rest lamps) (t .states * t .worlds) p (ended x k) →
         Comes t x (length ls + k) start line
@@ -80,11 +82,11 @@ module _ (t : Tables) (wf : WellFormed t) (start : WorldState) (line : Line) (of
           count = refl;
         }
 
-  -- The walk passes the lamp, to p′.
+  -- The walk passes the lamp, and arrives with p′.
   module _
       (p p′ : Pair) (kind k : ℕ) (lamps : List ℕ) (ls : List Label) (came : Comes-to p (kind ∷ lamps) ls)
       (a : Arrives t p (rest (kind ∷ lamps)) p′ k) where
-    -- The execution has come to the lamps behind it.
+    -- The execution has arrived at the lamps after it.
     passed-to : Comes-to p′ lamps ((ls ++ a .labels) ++ (a .label ∷ []))
     passed-to =
         record {
@@ -95,7 +97,7 @@ module _ (t : Tables) (wf : WellFormed t) (start : WorldState) (line : Line) (of
     passed-count : length ((ls ++ a .labels) ++ (a .label ∷ [])) ≡ length ls + k
     passed-count = omega (arith, length-append (ls ++ a .labels) (a .label ∷ []), length-append ls (a .labels), a .count)
 
-  -- From where the execution has come to, the run says what is true of it.
+  -- What the run says from there on is true of the execution.
   along-comes :
       (lamps : List ℕ) (p : Pair) (ls : List Label) → Comes-to p lamps ls → RunComes (length ls) (along t (line .end) lamps p)
   along-comes [] p ls came = go (lampWalk t p (line .end)) refl (walk-means t (t .states * t .worlds) p (rest []))

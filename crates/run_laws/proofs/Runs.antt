@@ -1,4 +1,4 @@
--- The run lamp by lamp, and the bound of its steps: at each lamp and at the line's end it counts at most S·W.
+-- Laws of the run lamp by lamp, and the bound of its steps: it counts at most S·W at each lamp and at the line's end.
 use mathlib.Core.Path.{_≡_, refl}
 use mathlib.Core.List.{List, [], _∷_}
 use Prim.Native.Nat.{ℕ, zero, suc, _+_, _*_, _≤_}
@@ -6,17 +6,17 @@ use native.Mathlib.Nat.{suc-mul}
 use native.Mathlib.Numerals.{add-one}
 use native.Mathlib.Omega.{arith}
 use lib.ListN.{length}
+use Rattle.lamp_line.specs.declared.WorldState.{WorldState}
 use Rattle.lamp_line.specs.declared.Ending.{Ending}
-use Rattle.lamp_line.specs.Tables.{Tables, WellFormed, lampColumn, column}
+use Rattle.lamp_line.specs.Tables.{Tables, Line, lampColumn, column}
 use Rattle.lamp_line.specs.Run.{Pair, pair, Move, ends, stays, passes, Walk, ended, arrived, Run, ran}
-use Rattle.lamp_line.specs.Run.{act, walk, lampWalk, along}
-use Rattle.lamp_line.specs.Promises.{RunIsBounded}
-use Rattle.run_laws.specs.Lines.{lineOf}
+use Rattle.lamp_line.specs.Run.{act, walk, lampWalk, along, run}
+use Rattle.run_laws.specs.inner.Lines.{lineOf}
 use Rattle.run_laws.proofs.Walks.{counts-at-most-one, walkAfter, walk-ends, walk-stays, walk-passes}
 
 -- ---- the run lamp by lamp
 
--- k steps, and then what a run comes to.
+-- k steps, and then what a run answers.
 abbrev pub runAfter : ℕ → Run → Run
 runAfter k (ran x n) = ran x (k + n)
 
@@ -40,7 +40,7 @@ module _ (t : Tables) where
 
 -- ---- the bound of the steps
 
--- The steps counted by a walk, and by a run.
+-- The steps that a walk counts, and those that a run counts.
 abbrev pub walkSteps : Walk → ℕ
 walkSteps (ended x k) = k
 walkSteps (arrived p k) = k
@@ -56,7 +56,7 @@ run-after-steps : (k : ℕ) (r : Run) → runSteps (runAfter k r) ≡ k + runSte
 run-after-steps k (ran x n) = refl
 
 module _ (t : Tables) where
-  -- A walk with n steps left counts at most n.
+  -- A walk that may count n steps counts at most n.
   pub walk-bounded : (n : ℕ) (p : Pair) (c : ℕ) → walkSteps (walk t n p c) ≤ n
   walk-bounded zero p c = unfold walk in omega arith
   walk-bounded (suc n) p c = go (λ p′. walk-bounded n p′ c) (act t p c) refl
@@ -93,8 +93,10 @@ module _ (t : Tables) where
           rw (along-passes t end kind lamps p p′ k e, run-after-steps)
           (omega (arith, rw e at most, after p′, suc-mul (suc (length lamps)) (t .states * t .worlds)))
 
--- "k is at most (n+1)·S·W for n lamps."
-pub run-is-bounded : (t : Tables) → WellFormed t → RunIsBounded t
-run-is-bounded t wf start line of x k e =
+-- A run counts at most (n + 1)·S·W steps along n lamps.
+pub run-is-bounded :
+    (t : Tables) (start : WorldState) (line : Line) (x : Ending) (k : ℕ) → run t start line ≡ ran x k →
+    k ≤ (length (line .lamps) + 1) * (t .states * t .worlds)
+run-is-bounded t start line x k e =
     let h = along-bounded t (line .end) (line .lamps) (pair (t .first) start) in
     rw (add-one (length (line .lamps))) (rw e at h)

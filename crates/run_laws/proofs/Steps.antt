@@ -1,5 +1,5 @@
--- A step of the lamp line is determined, since a cell has at most one outcome. It keeps to the pairs of the tables and to the
--- line's end, and where its action moves on it leaves one lamp fewer.
+-- A step of the lamp line is determined, since a cell has at most one outcome. It leads from pairs of the tables to pairs of the
+-- tables, keeps the line's end and, if its action moves on, leaves one lamp fewer.
 use mathlib.Core.Path.{_≡_, refl, sym, ap, ap₂, _∙_}
 use mathlib.Core.Logic.{inl, inr}
 use mathlib.Core.Bool.{Bool, true, false, cond}
@@ -12,11 +12,12 @@ use Rattle.plans.specs.Execution.{Label, did, actionOf, resultOf, Step, T*, her
 use Rattle.lamp_line.specs.declared.ProgramState.{ProgramState}
 use Rattle.lamp_line.specs.declared.WorldState.{WorldState}
 use Rattle.lamp_line.specs.Lists.{_∈_}
-use Rattle.lamp_line.specs.Tables.{outcome, Tables, Situation, WellFormed, movesOn, endKinds, column, passed, lampTheory, planOf}
+use Rattle.lamp_line.specs.Tables.{outcome, Tables, Situation, movesOn, endKinds, column, passed, lampTheory, planOf}
+use Rattle.lamp_line.specs.inner.WellFormed.{WellFormed}
 use Rattle.lamp_line.specs.Check.{situation}
 use Rattle.lamp_line.specs.Run.{pair}
 use Rattle.plans.proofs.Executions.{StepsDetermined}
-use Rattle.run_laws.specs.Pairs.{InRange}
+use Rattle.run_laws.specs.inner.Pairs.{InRange}
 
 -- Nothing is in an empty list.
 pub none-in-empty : {A : Type 0} (x : A) (l : List A) → l ≡ [] → ¬ (x ∈ l)
@@ -24,7 +25,7 @@ unfolding _∈_
 none-in-empty x [] h m = m
 none-in-empty x (y ∷ l) h m = omega (arith, ap length h)
 
--- What is in a list of at most one element is that element.
+-- An element of a list of at most one element is that element.
 only-one : {A : Type 0} (x : A) (l : List A) → length l ≤ 1 → x ∈ l → l ≡ x ∷ []
 unfolding _∈_
 only-one x [] h m = absurd m
@@ -36,13 +37,13 @@ same-label : (l m : Label) → actionOf l ≡ actionOf m → resultOf l ≡ resu
 same-label (did a r) (did b u) e f = cc
 
 module _ (t : Tables) (wf : WellFormed t) where
-  -- An outcome of a cell is its only one.
+  -- A cell has at most one outcome.
   pub one-outcome :
       (a : Action) (w : WorldState) (c : ℕ) (w′ : WorldState) (r : Result) →
       outcome w′ r ∈ t .cell a w c → t .cell a w c ≡ outcome w′ r ∷ []
   one-outcome a w c w′ r = only-one (outcome w′ r) (t .cell a w c) (wf .single a w c)
 
-  -- A place has at most one step.
+  -- At most one step leaves each place.
   pub steps-determined : StepsDetermined (lampTheory t) (planOf t)
   steps-determined = record { one-step = one-step }
     where
@@ -58,7 +59,7 @@ module _ (t : Tables) (wf : WellFormed t) where
           let same-rest : s₁ .rest ≡ s₂ .rest = x .does .1 ∙ sym (y .does .1) in
           (same-label l m (x .acts ∙ sym (y .acts)) same-result, cc, ap₂ situation same-world same-rest)
 
-  -- A step comes to a pair of the tables.
+  -- A step leads to a pair of the tables.
   pub step-in-range :
       {l : Label} {q q′ : ProgramState} {s s′ : Situation} → Step (lampTheory t) (planOf t) q s l q′ s′ →
       InRange t (pair q′ (s′ .world))
@@ -68,7 +69,7 @@ module _ (t : Tables) (wf : WellFormed t) where
         world-range = wf .next-range (t .action q) (s .world) (s′ .world) (column t (s .rest)) (resultOf l) (x .does .0);
       }
 
-  -- An execution keeps to the pairs of the tables.
+  -- An execution from a pair of the tables leads to pairs of the tables.
   pub execution-in-range :
       {ls : List Label} {q q′ : ProgramState} {s s′ : Situation} → T* (lampTheory t) (planOf t) ls q s q′ s′ →
       InRange t (pair q (s .world)) → InRange t (pair q′ (s′ .world))
@@ -88,7 +89,7 @@ module _ (t : Tables) (wf : WellFormed t) where
       kept true = refl
       kept false = refl
 
-  -- A step that moves on leaves one lamp fewer: at the line's end there is no such step.
+  -- A step that moves on leaves one lamp fewer; at the line's end no step moves on.
   pub step-passes :
       {l : Label} {q q′ : ProgramState} {s s′ : Situation} → Step (lampTheory t) (planOf t) q s l q′ s′ →
       movesOn t (actionOf l) ≡ true → s .rest .end < endKinds t → length (s .rest .lamps) ≡ suc (length (s′ .rest .lamps))

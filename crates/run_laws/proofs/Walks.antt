@@ -1,5 +1,6 @@
--- The one-lamp walk, turn by turn, and what it says of the execution: it ends where the execution ends, arrives where the
--- execution passes the lamp, and says "circles" where the execution has made all its steps at the lamp and goes on.
+-- Laws of the walk, action by action, and what it says about the execution: the walk ends where the execution ends, and arrives
+-- where the execution passes the lamp. It says "circles" where the execution has made all the walk's steps at the lamp and has not
+-- ended.
 use mathlib.Core.Path.{_≡_, refl, sym, ap, subst}
 use mathlib.Core.Logic.{_≢_}
 use mathlib.Core.Bool.{Bool, true, false, cond}
@@ -13,16 +14,17 @@ use Rattle.plans.specs.Execution.{Label, actionOf, here, join, step}
 use Rattle.lamp_line.specs.declared.FailureKind.the-variants.{NotLegal, NoBranch, Circles, GoalFalse}
 use Rattle.lamp_line.specs.declared.Ending.{Ending}
 use Rattle.lamp_line.specs.declared.Ending.the-variants.{Goal, Failure}
-use Rattle.lamp_line.specs.Tables.{Tables, WellFormed, Line, final, movesOn, column, passed, endKinds}
+use Rattle.lamp_line.specs.Tables.{Tables, Line, final, movesOn, column, passed, endKinds}
+use Rattle.lamp_line.specs.inner.WellFormed.{WellFormed}
 use Rattle.lamp_line.specs.Run.{Pair, Move, ends, stays, passes, Walk, ended, arrived, isFinal, judged, act, ownSteps, walk}
-use Rattle.run_laws.specs.Pairs.{InRange}
+use Rattle.run_laws.specs.inner.Pairs.{InRange}
 use Rattle.run_laws.proofs.Steps.{step-in-range, step-passes}
-use Rattle.run_laws.specs.Lines.{lineOf}
+use Rattle.run_laws.specs.inner.Lines.{lineOf}
 use Rattle.run_laws.proofs.Actions.{StepAt, ExecutionAt, EndsAt, MoveMeans, act-final, act-means}
 
--- ---- what an ending counts
+-- ---- the steps that an ending adds
 
--- An ending counts at most one step besides those of the execution.
+-- An ending adds at most one step to those of the execution.
 pub counts-at-most-one : (x : Ending) → ownSteps x ≤ 1
 unfolding ownSteps
 counts-at-most-one Goal = omega arith
@@ -31,33 +33,33 @@ counts-at-most-one (Failure NoBranch) = omega arith
 counts-at-most-one (Failure Circles) = omega arith
 counts-at-most-one (Failure GoalFalse) = omega arith
 
--- An ending in state S counts none.
+-- An ending in state S adds none.
 judged-counts-no-step : (b : Bool) → ownSteps (cond b Goal (Failure GoalFalse)) ≡ 0
 unfolding ownSteps
 judged-counts-no-step true = refl
 judged-counts-no-step false = refl
 
--- ---- the walk turn by turn
+-- ---- the walk action by action
 
--- k steps, and then what a walk comes to.
+-- k steps, and then what a walk answers.
 abbrev pub walkAfter : ℕ → Walk → Walk
 walkAfter k (ended x n) = ended x (k + n)
 walkAfter k (arrived p n) = arrived p (k + n)
 
 module _ (t : Tables) where
-  -- No step is left: the run ends, as it does in the final state or else with failure 3.
+  -- No step is left: the walk ends, as the goal decides in the final state, else with failure 3.
   pub walk-spent :
       (p : Pair) (c : ℕ) (b : Bool) → isFinal t (p .state) ≡ b →
       walk t zero p c ≡ ended (cond b (judged t (p .world) c) (Failure Circles)) 0
   unfolding walk
   walk-spent p c b e = rw e
 
-  -- A turn whose action ends the run.
+  -- The action ends the run.
   pub walk-ends : (n : ℕ) (p : Pair) (c : ℕ) (x : Ending) → act t p c ≡ ends x → walk t (suc n) p c ≡ ended x (ownSteps x)
   unfolding walk
   walk-ends n p c x e = rw (e, walk)
 
-  -- A turn whose action stays at the lamp.
+  -- The action stays at the lamp.
   pub walk-stays : (n : ℕ) (p p′ : Pair) (c : ℕ) → act t p c ≡ stays p′ → walk t (suc n) p c ≡ walkAfter 1 (walk t n p′ c)
   walk-stays n p p′ c e = go (walk t n p′ c) refl
     where
@@ -65,14 +67,14 @@ module _ (t : Tables) where
       go (ended x k) f = unfold walk in rw (e, walk, f, one-add)
       go (arrived p″ k) f = unfold walk in rw (e, walk, f, one-add)
 
-  -- A turn whose action passes the lamp.
+  -- The action passes the lamp.
   pub walk-passes : (n : ℕ) (p p′ : Pair) (c : ℕ) → act t p c ≡ passes p′ → walk t (suc n) p c ≡ arrived p′ 1
   unfolding walk
   walk-passes n p p′ c e = rw (e, walk)
 
   -- ---- what a walk says of the execution
 
-  -- From p at a lamp the execution comes to rest there with this ending, after k counted steps.
+  -- From p at a lamp, the execution comes to rest there with this ending and k counted steps.
   pub record RestsHere (x : Ending) (k : ℕ) (p : Pair) (line : Line) : Type 0 where
     pub labels : List Label
     pub last : Pair
@@ -80,7 +82,7 @@ module _ (t : Tables) where
     pub ends : EndsAt t x last line
     pub count : k ≡ length labels + ownSteps x
 
-  -- From p at a lamp the execution stays there and then passes it, to p′, with k steps in all.
+  -- From p at a lamp, the execution stays there for some steps and then passes it, arriving with p′. k counts all these steps.
   pub record Arrives (p : Pair) (line : Line) (p′ : Pair) (k : ℕ) : Type 0 where
     pub labels : List Label
     pub last : Pair
@@ -90,12 +92,13 @@ module _ (t : Tables) where
     pub moves-on : movesOn t (actionOf label) ≡ true
     pub count : k ≡ length labels + 1
 
-  -- n actions in a row stay at the lamp, and do not lead to the final state.
+  -- From p, n actions in a row stay at the lamp, and do not lead to the final state.
   pub data Lingers (c : ℕ) : ℕ → Pair → Type 0 where
     not-ended : {p : Pair} → p .state ≢ final t → Lingers c zero p
     stays-on : {n : ℕ} {p p′ : Pair} → act t p c ≡ stays p′ → Lingers c n p′ → Lingers c (suc n) p
 
-  -- What a walk with n steps left says of the execution from p: it rests at this lamp, has lingered there, or passes it.
+  -- What a walk that may count n steps says about the execution from p: it comes to rest at this lamp, or lingers there for n
+  -- steps, or passes the lamp.
   pub data WalkMeans (line : Line) : ℕ → Pair → Walk → Type 0 where
     rests : {n : ℕ} {p : Pair} {x : Ending} {k : ℕ} → RestsHere x k p line → WalkMeans line n p (ended x k)
     lingers : {n : ℕ} {p : Pair} → Lingers (column t line) n p → WalkMeans line n p (ended (Failure Circles) n)
@@ -104,7 +107,7 @@ module _ (t : Tables) where
   rests-at-once : {x : Ending} {p : Pair} {line : Line} {k : ℕ} → EndsAt t x p line → k ≡ ownSteps x → RestsHere x k p line
   rests-at-once {p = p} h e = record { labels = []; last = p; execution = here; ends = h; count = omega arith }
 
-  -- One step that stays, and then what the walk says of the execution after it.
+  -- After a step that stays, what the walk says from there on is true with one more step.
   module _ {line : Line} {p p′ : Pair} {l : Label} (stay : StepAt t p line l p′ line) where
     rests-later : {x : Ending} {k : ℕ} → RestsHere x k p′ line → RestsHere x (1 + k) p line
     rests-later r =
@@ -162,14 +165,14 @@ module _ (t : Tables) where
   -- ---- where a walk arrives
 
   module _ (wf : WellFormed t) where
-    -- A walk that passes its lamp comes to a pair of the tables.
+    -- A walk that passes its lamp arrives with a pair of the tables.
     pub arrived-in-range : (n : ℕ) (p p′ : Pair) (c k : ℕ) → arrived p′ k ≡ walk t n p c → InRange t p′
     arrived-in-range n p p′ c k e = go (subst (λ v. WalkMeans (lineOf c []) n p v) (sym e) (walk-means n p (lineOf c [])))
       where
         go : WalkMeans (lineOf c []) n p (arrived p′ k) → InRange t p′
         go (arrives a) = step-in-range t wf (a .passing)
 
-    -- A walk passes a lamp only where there is one.
+    -- A walk passes a lamp only if there is one.
     pub arrived-at-lamp :
         (n : ℕ) (p p′ : Pair) (line : Line) (k : ℕ) → line .end < endKinds t →
         arrived p′ k ≡ walk t n p (column t line) → 0 < length (line .lamps)

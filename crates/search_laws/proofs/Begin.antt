@@ -1,4 +1,5 @@
--- The loop of document 01 over the starts: each start has one node of its own, and is tested as soon as it is taken.
+-- The search's loop over the starts (01, "The check"): each start has one node that no other has, and is tested as soon as it is
+-- taken.
 use mathlib.Core.Path.{_≡_, sym, ap, subst, _∙_}
 use mathlib.Core.Logic.{_≢_}
 use mathlib.Core.List.{List, []}
@@ -6,12 +7,12 @@ use Prim.Native.Nat.{ℕ, _+_, _≤_, _<_}
 use native.Mathlib.Omega.{arith}
 use lib.ListN.{length}
 use Rattle.lamp_line.specs.Lists.{_≼_}
-use Rattle.search_laws.specs.Lists.{_≺_}
+use Rattle.search_laws.specs.inner.Lists.{_≺_}
 use Rattle.search_laws.proofs.Lex.{≺-irrefl}
 use Rattle.search_laws.proofs.Keys.{key, stem-start}
-use Rattle.search_laws.specs.Graph.{Graph, Plain}
+use Rattle.search_laws.specs.inner.Graph.{Graph, Plain}
 use Rattle.search_laws.proofs.Graph.{Least, lowest-end-first}
-use Rattle.search_laws.specs.Entries.{Entry, entry, entryAt, node, start, grown}
+use Rattle.search_laws.specs.inner.Entries.{Entry, entry, entryAt, node, start, grown}
 use Rattle.search_laws.proofs.Table.{stemOf}
 use Rattle.search_laws.proofs.Grown.{grown-length, grown-new}
 use Rattle.search_laws.proofs.Starts.{StartsTaken, Early, early, skip-start, take-start, early-least, starts-tested}
@@ -37,7 +38,7 @@ begin-empty g =
     }
 
 module _ (g : Graph) (E : List Entry) (q : ℕ) (b : Begun g E q) where
-  -- The number q is no start.
+  -- The number q is not a start: it is skipped.
   pub begin-skip : ((x : ℕ) → ¬ (g .Start q x)) → Begun g E (q + 1)
   begin-skip = skip-start b
 
@@ -60,7 +61,7 @@ module _ (g : Graph) (E : List Entry) (q : ℕ) (b : Begun g E q) where
         let e : i ≡ length E = omega (arith, grown-length E z) in
         ap (entryAt (grown E z)) e ∙ grown-new E z
 
-    -- The start q begins at a node that fails at no end: it is taken.
+    -- The start q begins at a node that fails at no end: the node is added.
     pub begin-add : ((e f : ℕ) → e < g .ends → ¬ (g .BadEnd x e f)) → Begun g (grown E (entry x q [])) (q + 1)
     unfolding z
     begin-add good = starts-tested taken none
@@ -68,7 +69,7 @@ module _ (g : Graph) (E : List Entry) (q : ℕ) (b : Begun g E q) where
         none : (e s f : ℕ) → ¬ (Early g (grown E z) (length E) e s f)
         none e s f (early i ge lt le h) = good e f le (subst (λ (v : Entry). g .BadEnd (v .node) e f) (is-new i ge lt) h)
 
-    -- It fails at an end, and e is the lowest: the empty line is the least failing line.
+    -- The node fails at an end, and e is the lowest such: the empty line is the least failing line.
     pub begin-lowest :
         (e f : ℕ) → e < g .ends → g .BadEnd x e f → ((e′ f′ : ℕ) → e′ < e → ¬ (g .BadEnd x e′ f′)) → Least g [] e q f
     unfolding z
@@ -86,7 +87,7 @@ module _ (g : Graph) (E : List Entry) (q : ℕ) (b : Begun g E q) where
             (lowest-end-first g plain x e f e′ f′ q [] bad lowest
             (subst (λ (v : Entry). g .BadEnd (v .node) e′ f′) (is-new i ge lt) h))
 
-  -- All starts are taken, and there is one: the first entry is tried from the first kind on.
+  -- All starts are taken, and there is at least one: the first entry is tried next, from the first kind on.
   pub begin-done : 0 < length E → ((s x : ℕ) → g .Start s x → s < q) → At g E 0 1
   begin-done pos all = record { inv = first-group b 1 (omega arith) pos all alone other; strict = strict }
     where

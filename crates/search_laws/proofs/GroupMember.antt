@@ -1,4 +1,4 @@
--- One entry of a group, tried with one kind of lamp: the nodes it leads to are in the table already, or are added.
+-- One entry of a group, tried with one kind of lamp: each node to which it leads is already in the table, or is added.
 use mathlib.Core.Path.{_≡_, sym, subst}
 use mathlib.Core.Logic.{_≢_, _⊎_, inl, inr, ⊎-elim}
 use mathlib.Core.List.{List, [], _∷_}
@@ -6,18 +6,16 @@ use Prim.Native.Nat.{ℕ, _+_, _≤_, _<_}
 use native.Mathlib.Omega.{arith}
 use lib.ListN.{length, length-append}
 use Rattle.lamp_line.specs.Lists.{_≼_}
-use Rattle.search_laws.specs.Lists.{_▸_, _≺_}
+use Rattle.search_laws.specs.inner.Lists.{_▸_, _≺_}
 use Rattle.search_laws.proofs.Lex.{≼-refl}
 use Rattle.search_laws.proofs.Keys.{stem, lineKey, stem-longer, stem-more, key-by-stem, key-more}
-use Rattle.search_laws.specs.Graph.{Graph, Kind, Reach, past-lamp}
-use Rattle.search_laws.specs.Entries.{Entry, entryAt, node, start, path, grown, onward}
-use Rattle.search_laws.proofs.Table.{entryKey, entryStem, keyOf, stemOf, keyOn, stemOn}
-use Rattle.search_laws.proofs.Table.{Known}
-use Rattle.search_laws.proofs.Grown.{below-or-not, below-or-last, grown-length, still-at, was-at}
-use Rattle.search_laws.proofs.Grown.{grown-all, grown-pairs, known-grown}
-use Rattle.search_laws.proofs.Invariant.{Tried, GroupTried, Invariant, group-in-table}
+use Rattle.search_laws.specs.inner.Graph.{Graph, Kind, Reach, past-lamp}
+use Rattle.search_laws.specs.inner.Entries.{Entry, entryAt, node, start, path, grown, onward}
+use Rattle.search_laws.proofs.Table.{entryKey, entryStem, keyOf, stemOf, keyOn, stemOn, Known}
+use Rattle.search_laws.proofs.Grown.{below-or-not, below-or-last, grown-length, still-at, was-at, grown-all, grown-pairs, known-grown}
+use Rattle.search_laws.proofs.Invariant.{IsTried, GroupTried, Invariant, group-in-table}
 
-tried-more : (a b k m i c : ℕ) → Tried a b k (m + 1) i c → Tried a b k m i c ⊎ ((i ≡ m) × (c ≡ k))
+tried-more : (a b k m i c : ℕ) → IsTried a b k (m + 1) i c → IsTried a b k m i c ⊎ ((i ≡ m) × (c ≡ k))
 tried-more a b k m i c (inl x) = inl (inl x)
 tried-more a b k m i c (inr (x, inl y)) = inl (inr (x, inl y))
 tried-more a b k m i c (inr (x, inr (y, z))) = ⊎-elim (λ w. inl (inr (x, inr (y, w)))) (λ w. inr (w, y)) (below-or-last i m z)
@@ -36,11 +34,11 @@ module _ {g : Graph} {E : List Entry} {a b k m n : ℕ} (inv : Invariant g E a b
           (subst (λ (z : List ℕ). stemOf E j ≺ z) (sym stem-tried) (inv .old-stems j h))
       go (inr h) = inv .new-early j m h l (omega arith) here
 
-  -- A node of the table is known early enough.
+  -- A node of the table was found early enough to be known for this line.
   pub seen : (j y : ℕ) → j < length E → node E j ≡ y → Known E y (start E m) (path E m ▸ k)
   seen j y l e = record { place = j; there = l; same = e; early = all-early j l }
 
-  -- The next entry of the group, when all nodes to which this one leads are known.
+  -- All nodes to which this entry leads are known: the next entry of the group is tried.
   pub member-done :
       ((y : ℕ) → g .To (node E m) k y → Known E y (start E m) (path E m ▸ k)) → Invariant g E a b k (m + 1) n
   member-done to =
@@ -64,11 +62,11 @@ module _ {g : Graph} {E : List Entry} {a b k m n : ℕ} (inv : Invariant g E a b
       }
     where
       on :
-          (i c y : ℕ) → i < length E → Kind (g .kinds) c → Tried a b k (m + 1) i c → g .To (node E i) c y →
+          (i c y : ℕ) → i < length E → Kind (g .kinds) c → IsTried a b k (m + 1) i c → g .To (node E i) c y →
           Known E y (start E i) (path E i ▸ c)
       on i c y l kind d t = go (tried-more a b k m i c d)
         where
-          go : Tried a b k m i c ⊎ ((i ≡ m) × (c ≡ k)) → Known E y (start E i) (path E i ▸ c)
+          go : IsTried a b k m i c ⊎ ((i ≡ m) × (c ≡ k)) → Known E y (start E i) (path E i ▸ c)
           go (inl u) = inv .covers .on i c y l kind u t
           go (inr (u, v)) = rw (u, v) (to y (rw (u, v) at t))
 
@@ -84,7 +82,7 @@ module _ {g : Graph} {E : List Entry} {a b k m n : ℕ} (inv : Invariant g E a b
     was : (i : ℕ) → i < length E → (P : Entry → Type 0) → P (entryAt (grown E z) i) → P (entryAt E i)
     was = was-at E z
 
-    tried-old : (i c : ℕ) → Tried a b k m i c → i < length E
+    tried-old : (i c : ℕ) → IsTried a b k m i c → i < length E
     tried-old i c (inl x) = group-in-table inv i (omega (arith, inv .a<b))
     tried-old i c (inr (x, y)) = group-in-table inv i x
 
@@ -144,11 +142,11 @@ module _ {g : Graph} {E : List Entry} {a b k m n : ℕ} (inv : Invariant g E a b
             subst (λ (v : List ℕ). v ≺ stemOn E m k) (inv .one-stem m (inv .a≤m) here)
             (stem-longer (start E m) (start E m) (path E m) (path E m ▸ k) (omega (arith, length-append (path E m) (k ∷ []))))
 
-        at-or-behind : (j : ℕ) → (m < j) ⊎ (m ≡ j) → j < length E → keyOf E m ≼ keyOf E j
-        at-or-behind j (inl u) l = inv .sorted m j u l
-        at-or-behind j (inr u) l = subst (λ (i : ℕ). keyOf E m ≼ keyOf E i) u (≼-refl (keyOf E m))
+        at-or-after : (j : ℕ) → (m < j) ⊎ (m ≡ j) → j < length E → keyOf E m ≼ keyOf E j
+        at-or-after j (inl u) l = inv .sorted m j u l
+        at-or-after j (inr u) l = subst (λ (i : ℕ). keyOf E m ≼ keyOf E i) u (≼-refl (keyOf E m))
 
         no-later : (j : ℕ) → m ≤ j → j < b → keyOn E m k ≼ keyOn E j k
         no-later j x l =
             key-more (start E m) (start E j) (path E m) (path E j) k
-            (at-or-behind j (below-or-last m j (omega arith)) (group-in-table inv j l))
+            (at-or-after j (below-or-last m j (omega arith)) (group-in-table inv j l))

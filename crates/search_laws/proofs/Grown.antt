@@ -1,4 +1,4 @@
--- The table with one entry more: the old entries stand where they stood, and the new one is the last.
+-- Laws of the table with one more entry: the old entries are where they were, and the new one is the last.
 use mathlib.Core.Path.{_≡_, sym, ap, subst}
 use mathlib.Core.Logic.{_⊎_, inl, inr, ⊎-elim}
 use mathlib.Core.List.{List, [], _∷_}
@@ -10,7 +10,7 @@ use lib.Seq.{getD-append-seam}
 use Rattle.lamp_line.specs.Lists.{_≼_}
 use Rattle.search_laws.proofs.Lex.{≼-refl}
 use Rattle.search_laws.proofs.Keys.{lineKey}
-use Rattle.search_laws.specs.Entries.{Entry, entry, entryAt, grown}
+use Rattle.search_laws.specs.inner.Entries.{Entry, entry, entryAt, grown}
 use Rattle.search_laws.proofs.Table.{entryKey, Known}
 
 -- A number is below another, or not.
@@ -26,26 +26,26 @@ pub below-or-last : (i h : ℕ) → i < h + 1 → (i < h) ⊎ (i ≡ h)
 below-or-last i h l = ⊎-elim (λ x. inl x) (λ x. inr (omega arith)) (below-or-not i h)
 
 module _ (E : List Entry) (z : Entry) where
-  -- It has one entry more.
+  -- The table is one entry longer.
   pub grown-length : length (grown E z) ≡ length E + 1
   grown-length = omega (arith, length-append E (z ∷ []))
 
   grown-old : (i : ℕ) → i < length E → entryAt (grown E z) i ≡ entryAt E i
   grown-old i l = List·getD-append E (z ∷ []) (entry 0 0 []) i l
 
-  -- The last is the new one.
+  -- The last entry is the new one.
   pub grown-new : entryAt (grown E z) (length E) ≡ z
   grown-new = getD-append-seam E z [] (entry 0 0 [])
 
-  -- What holds of an old entry holds of it in the new table.
+  -- What holds for an old entry holds for it in the new table.
   pub still-at : (i : ℕ) → i < length E → (P : Entry → Type 0) → P (entryAt E i) → P (entryAt (grown E z) i)
   still-at i l P x = subst P (sym (grown-old i l)) x
 
-  -- And what holds of it there held of it before.
+  -- What holds for an old entry in the new table held for it before.
   pub was-at : (i : ℕ) → i < length E → (P : Entry → Type 0) → P (entryAt (grown E z) i) → P (entryAt E i)
   was-at i l P x = subst P (grown-old i l) x
 
-  -- What holds of the old entries and of the new one holds of all.
+  -- What holds for the old entries and for the new one holds for all entries.
   pub grown-all :
       (P : ℕ → Entry → Type 0) → ((i : ℕ) → i < length E → P i (entryAt E i)) → P (length E) z →
       (i : ℕ) → i < length (grown E z) → P i (entryAt (grown E z) i)
@@ -55,7 +55,7 @@ module _ (E : List Entry) (z : Entry) where
       go (inl x) = still-at i x (P i) (old i x)
       go (inr x) = rw (x, grown-new) new
 
-  -- What holds of any two old entries, and of each with the new one, holds of any two.
+  -- What holds for any two old entries, and for each of them with the new one, holds for any two entries.
   pub grown-pairs :
       (P : Entry → Entry → Type 0) → ((i j : ℕ) → i < j → j < length E → P (entryAt E i) (entryAt E j)) →
       ((i : ℕ) → i < length E → P (entryAt E i) z) →

@@ -1,5 +1,5 @@
--- The invariant of the search. It goes through the table by groups, a group being the entries of one stem; it tries the group
--- with one kind of lamp after the other, and with each kind one entry after the other.
+-- The invariant of the search. The search goes through the table by groups; a group is the entries with the same stem. It tries the
+-- group with one kind of lamp after another, and with each kind one entry after another.
 use mathlib.Core.Path.{_≡_}
 use mathlib.Core.Logic.{_≢_, _⊎_, inl, inr, ⊎-elim}
 use mathlib.Core.List.{List}
@@ -8,25 +8,25 @@ use native.Mathlib.Decide.{decLt, ℕ-discrete}
 use native.Mathlib.Omega.{arith}
 use lib.ListN.{length}
 use Rattle.lamp_line.specs.Lists.{_≼_}
-use Rattle.search_laws.specs.Lists.{_≺_}
-use Rattle.search_laws.specs.Graph.{Graph, Kind, Reach}
-use Rattle.search_laws.specs.Entries.{Entry, node, start, path}
+use Rattle.search_laws.specs.inner.Lists.{_≺_}
+use Rattle.search_laws.specs.inner.Graph.{Graph, Kind, Reach}
+use Rattle.search_laws.specs.inner.Entries.{Entry, node, start, path}
 use Rattle.search_laws.proofs.Table.{keyOf, stemOf, keyOn, stemOn, Covers}
 
--- The entry i was tried with the kind c, where the group from a to b has been tried with the kinds below k and, up to the entry
--- m, with k: it stands before the group, or in it and was tried so.
-abbrev pub Tried : ℕ → ℕ → ℕ → ℕ → ℕ → ℕ → Type 0
-Tried a b k m i c = (i < a) ⊎ ((i < b) × ((c < k) ⊎ ((c ≡ k) × (i < m))))
+-- The entry i was tried with the kind c. The group from a to b has been tried with the kinds below k, and with k up to the entry m;
+-- so the entry is before the group, or it is in the group and c or i is early enough.
+abbrev pub IsTried : ℕ → ℕ → ℕ → ℕ → ℕ → ℕ → Type 0
+IsTried a b k m i c = (i < a) ⊎ ((i < b) × ((c < k) ⊎ ((c ≡ k) × (i < m))))
 
 -- The whole group of the entry i was tried with the kind c.
 abbrev pub GroupTried : ℕ → ℕ → ℕ → ℕ → ℕ → Type 0
 GroupTried a b k i c = (i < a) ⊎ ((i < b) × (c < k))
 
--- Whether an entry was tried with a kind can be told.
-pub tried? : (a b k m i c : ℕ) → Dec (Tried a b k m i c)
+-- It is decidable whether an entry was tried with a kind.
+pub tried? : (a b k m i c : ℕ) → Dec (IsTried a b k m i c)
 tried? a b k m i c = go (decLt i a) (decLt i b) (decLt c k) (ℕ-discrete c k) (decLt i m)
   where
-    go : Dec (i < a) → Dec (i < b) → Dec (c < k) → Dec (c ≡ k) → Dec (i < m) → Dec (Tried a b k m i c)
+    go : Dec (i < a) → Dec (i < b) → Dec (c < k) → Dec (c ≡ k) → Dec (i < m) → Dec (IsTried a b k m i c)
     go (yes x) y z u v = yes (inl x)
     go (no x) (no y) z u v = no (⊎-elim (λ w. x w) (λ w. y (w .0)))
     go (no x) (yes y) (yes z) u v = yes (inr (y, inl z))
@@ -34,30 +34,30 @@ tried? a b k m i c = go (decLt i a) (decLt i b) (decLt c k) (ℕ-discrete c k) (
     go (no x) (yes y) (no z) (yes u) (yes v) = yes (inr (y, inr (u, v)))
     go (no x) (yes y) (no z) (yes u) (no v) = no (⊎-elim (λ w. x w) (λ w. ⊎-elim (λ r. z r) (λ r. v (r .1)) (w .1)))
 
--- The group from a to b is tried with the kind k, and its entry m is next. The entries from n on were found with this kind; their
--- ends are not tested yet.
+-- The group from a to b is being tried with the kind k, and its entry m is next. The entries from n on were found with this kind;
+-- their ends are not tested yet.
 pub record Invariant (g : Graph) (E : List Entry) (a b k m n : ℕ) : Type 0 where
-  -- What was tried leads to known nodes.
-  pub covers : Covers g E (Tried a b k m)
+  -- Entries and kinds that were tried lead to known nodes.
+  pub covers : Covers g E (IsTried a b k m)
   -- No entry fails at a kind of lamp with which its whole group was tried.
   pub lamps-good : (i c f : ℕ) → i < length E → Kind (g .kinds) c → GroupTried a b k i c → ¬ (g .Bad (node E i) c f)
   -- None of the first n entries fails at an end.
   pub ends-good : (i e f : ℕ) → i < n → e < g .ends → ¬ (g .BadEnd (node E i) e f)
   -- The start and the lamps of an entry lead to its node.
   pub real : (i : ℕ) → i < length E → Reach g (start E i) (path E i) (node E i)
-  -- The entries stand in the order of their keys.
+  -- The entries are in the order of their keys.
   pub sorted : (i j : ℕ) → i < j → j < length E → keyOf E i ≼ keyOf E j
-  -- The entries of the group have one stem, and those behind it a later one.
+  -- The entries of the group have the same stem, and those after it have later ones.
   pub one-stem : (i : ℕ) → a ≤ i → i < b → stemOf E i ≡ stemOf E a
   pub later-stems : (i : ℕ) → b ≤ i → i < length E → stemOf E a ≺ stemOf E i
-  -- The first n entries have earlier stems than the line that is tried, and the others have its stem.
+  -- The first n entries have earlier stems than the line that is tried; the others have its stem.
   pub old-stems : (i : ℕ) → i < n → stemOf E i ≺ stemOn E a k
   pub new-stems : (i : ℕ) → n ≤ i → i < length E → stemOf E i ≡ stemOn E a k
-  -- The others come no later than what the entries of the group may still lead to.
+  -- The others come no later than what the remaining entries of the group may lead to.
   pub new-early : (i j : ℕ) → n ≤ i → i < length E → m ≤ j → j < b → keyOf E i ≼ keyOn E j k
-  -- No node stands twice in the table.
+  -- No node is in the table twice.
   pub distinct : (i j : ℕ) → i < j → j < length E → node E i ≢ node E j
-  -- The places in order.
+  -- The order of the places.
   pub a<b : a < b
   pub a≤m : a ≤ m
   pub m≤b : m ≤ b

@@ -1,4 +1,4 @@
--- Lists of numbers in order by the first difference: the order, and its strict form, in which no list begins the other.
+-- Laws of the order of lists by the first difference, and of its strict form, in which neither list is the beginning of the other.
 use mathlib.Core.Path.{_≡_, refl, _∙_}
 use mathlib.Core.Logic.{_⊎_, inl, inr, ⊎-elim}
 use mathlib.Core.List.{List, [], _∷_, _++_}
@@ -7,17 +7,17 @@ use native.Mathlib.Decide.{decLt}
 use native.Mathlib.Omega.{arith}
 use lib.ListN.{length}
 use Rattle.lamp_line.specs.Lists.{_≼_}
-use Rattle.search_laws.specs.Lists.{_▸_, _≺_}
+use Rattle.search_laws.specs.inner.Lists.{_▸_, _≺_}
 
 -- ---- the order
 
--- Every list is in order with itself.
+-- The order is reflexive.
 pub ≼-refl : (l : List ℕ) → l ≼ l
 unfolding _≼_
 ≼-refl [] = tt
 ≼-refl (a ∷ l) = inr (refl, ≼-refl l)
 
--- Two steps in order make one.
+-- The order is transitive.
 pub ≼-trans : (l m n : List ℕ) → l ≼ m → m ≼ n → l ≼ n
 unfolding _≼_
 ≼-trans [] m n p q = tt
@@ -28,7 +28,7 @@ unfolding _≼_
 ≼-trans (a ∷ l) (b ∷ m) (c ∷ n) (inr (p, r)) (inl q) = inl (omega arith)
 ≼-trans (a ∷ l) (b ∷ m) (c ∷ n) (inr (p, r)) (inr (q, s)) = inr (p ∙ q, ≼-trans l m n r s)
 
--- Lists in order both ways are one.
+-- The order is antisymmetric.
 pub ≼-antisym : (l m : List ℕ) → l ≼ m → m ≼ l → l ≡ m
 unfolding _≼_
 ≼-antisym [] [] p q = refl
@@ -39,13 +39,13 @@ unfolding _≼_
 ≼-antisym (a ∷ l) (b ∷ m) (inr (p, r)) (inl q) = absurd (omega arith)
 ≼-antisym (a ∷ l) (b ∷ m) (inr (p, r)) (inr (q, s)) = let e = ≼-antisym l m r s in cc
 
--- Behind one list the order is that of what follows it.
-pub ≼-behind : (l x y : List ℕ) → x ≼ y → (l ++ x) ≼ (l ++ y)
+-- Lists that begin with the same list are in order if what follows it is.
+pub ≼-after : (l x y : List ℕ) → x ≼ y → (l ++ x) ≼ (l ++ y)
 unfolding _≼_
-≼-behind [] x y p = p
-≼-behind (a ∷ l) x y p = inr (refl, ≼-behind l x y p)
+≼-after [] x y p = p
+≼-after (a ∷ l) x y p = inr (refl, ≼-after l x y p)
 
--- Lists of one number are in the order of these.
+-- Lists of a single number are ordered as these numbers are.
 pub ≼-single : (a b : ℕ) → a ≤ b → (a ∷ []) ≼ (b ∷ [])
 ≼-single a b h = go (decLt a b)
   where
@@ -55,7 +55,7 @@ pub ≼-single : (a b : ℕ) → a ≤ b → (a ∷ []) ≼ (b ∷ [])
 
 -- ---- its strict form
 
--- Two strict steps make one.
+-- The strict order is transitive.
 pub ≺-trans : (l m n : List ℕ) → l ≺ m → m ≺ n → l ≺ n
 unfolding _≺_
 ≺-trans [] m n p q = absurd p
@@ -66,14 +66,14 @@ unfolding _≺_
 ≺-trans (a ∷ l) (b ∷ m) (c ∷ n) (inr (p, r)) (inl q) = inl (omega arith)
 ≺-trans (a ∷ l) (b ∷ m) (c ∷ n) (inr (p, r)) (inr (q, s)) = inr (p ∙ q, ≺-trans l m n r s)
 
--- No list is strictly before itself.
+-- The strict order is irreflexive.
 pub ≺-irrefl : (l : List ℕ) → ¬ (l ≺ l)
 unfolding _≺_
 ≺-irrefl [] p = p
 ≺-irrefl (a ∷ l) (inl p) = omega arith
 ≺-irrefl (a ∷ l) (inr (p, r)) = ≺-irrefl l r
 
--- What is strictly before a list is in order with it.
+-- Lists in strict order are in order.
 pub ≺→≼ : (l m : List ℕ) → l ≺ m → l ≼ m
 unfolding _≼_ _≺_
 ≺→≼ [] m p = tt
@@ -89,13 +89,14 @@ unfolding _≺_
 ≺-append (a ∷ l) (b ∷ m) x y (inl p) = inl p
 ≺-append (a ∷ l) (b ∷ m) x y (inr (p, r)) = inr (p, ≺-append l m x y r)
 
--- Of lists that are one up to their last number the last numbers decide.
+-- If lists are equal but for their last numbers, the last numbers decide.
 pub ≺-last : (l : List ℕ) (c c′ : ℕ) → c < c′ → (l ▸ c) ≺ (l ▸ c′)
 unfolding _≺_
 ≺-last [] c c′ h = inl h
 ≺-last (a ∷ l) c c′ h = inr (refl, ≺-last l c c′ h)
 
--- Where two lists in order begin with lists of one length, these differ or are one, and then what follows is in order.
+-- If two lists are in order and begin with parts of the same length, these parts are in strict order, or they are equal and what
+-- follows is in order.
 pub ≼-split : (l m x y : List ℕ) → length l ≡ length m → (l ++ x) ≼ (m ++ y) → (l ≺ m) ⊎ ((l ≡ m) × (x ≼ y))
 unfolding _≼_ _≺_
 ≼-split [] [] x y h p = inr (refl, p)

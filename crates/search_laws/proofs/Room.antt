@@ -5,10 +5,10 @@ use Prim.Native.Nat.{ℕ, _≤_, _<_}
 use native.Mathlib.Omega.{arith}
 use lib.ListN.{length}
 use Rattle.plans.proofs.Pigeonhole.{pigeonhole}
-use Rattle.search_laws.specs.Entries.{Entry, node}
+use Rattle.search_laws.specs.inner.Entries.{Entry, node}
 use Rattle.search_laws.proofs.Grown.{below-or-not}
 
--- At most as many entries as nodes.
+-- There are at most as many entries as nodes.
 pub entries-fit :
     (E : List Entry) (N : ℕ) → ((i j : ℕ) → i < j → j < length E → node E i ≢ node E j) →
     ((i : ℕ) → i < length E → node E i < N) → length E ≤ N

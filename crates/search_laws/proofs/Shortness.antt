@@ -1,5 +1,5 @@
--- A least failing line is short. A line that passes more lamps than there are nodes to leave comes twice to one of them, and what
--- lies between can be left out; a line that fails at a lamp is cut there.
+-- A least failing line is short. If a line passes more lamps than there are nodes with edges, it meets one of these nodes twice,
+-- and the lamps between can be left out. If a line fails at a lamp, it can be cut off after that lamp.
 use mathlib.Core.Path.{_≡_, sym, subst}
 use mathlib.Core.List.{List, [], _∷_, _++_}
 use Prim.Native.Nat.{ℕ, zero, suc, _+_, _≤_, _<_}
@@ -9,7 +9,7 @@ use lib.ListN.{length, take, drop, length-append, length-take, length-drop}
 use Rattle.lamp_line.specs.Tables.{Kinds}
 use Rattle.plans.proofs.Pigeonhole.{Repeat, pigeonhole}
 use Rattle.search_laws.proofs.Keys.{key-length}
-use Rattle.search_laws.specs.Graph.{Graph, Fails, bad-end, bad-lamp, goes-on, FailsFrom}
+use Rattle.search_laws.specs.inner.Graph.{Graph, FailsAlong, bad-end, bad-lamp, goes-on, FailsFrom}
 use Rattle.search_laws.proofs.Graph.{Least}
 
 -- ---- the kinds of a part of a line
@@ -26,7 +26,7 @@ kinds-drop n zero l v = v
 kinds-drop n (suc i) [] v = tt
 kinds-drop n (suc i) (c ∷ l) v = kinds-drop n i l (v .2)
 
--- Two lists of kinds make one.
+-- Two lists of kinds one after the other are a list of kinds.
 pub kinds-append : (n : ℕ) (l m : List ℕ) → Kinds n l → Kinds n m → Kinds n (l ++ m)
 unfolding Kinds
 kinds-append n [] m v u = u
@@ -35,26 +35,26 @@ kinds-append n (c ∷ l) m v u = (v .0, v .1, kinds-append n l m (v .2) u)
 module _ (g : Graph) where
   -- ---- the nodes of a failing line
 
-  -- How many lamps it passes, and the node at each of them.
-  passed : {x e f : ℕ} {l : List ℕ} → Fails g x l e f → ℕ
+  -- How many lamps the line passes, and the node at each of them.
+  passed : {x e f : ℕ} {l : List ℕ} → FailsAlong g x l e f → ℕ
   passed (bad-end b) = 0
   passed (bad-lamp b) = 0
   passed (goes-on t d) = suc (passed d)
 
-  node-at : {x e f : ℕ} {l : List ℕ} → Fails g x l e f → ℕ → ℕ
+  node-at : {x e f : ℕ} {l : List ℕ} → FailsAlong g x l e f → ℕ → ℕ
   node-at (bad-end {x = x} b) i = x
   node-at (bad-lamp {x = x} b) i = x
   node-at (goes-on {x = x} t d) zero = x
   node-at (goes-on {x = x} t d) (suc i) = node-at d i
 
-  passed-bound : {x e f : ℕ} {l : List ℕ} (d : Fails g x l e f) → passed d ≤ length l
+  passed-bound : {x e f : ℕ} {l : List ℕ} (d : FailsAlong g x l e f) → passed d ≤ length l
   unfolding passed
   passed-bound (bad-end b) = omega arith
   passed-bound (bad-lamp b) = omega arith
   passed-bound (goes-on t d) = omega (arith, passed-bound d)
 
-  -- What is left of the line fails from the node there.
-  rest-fails : {x e f : ℕ} {l : List ℕ} (d : Fails g x l e f) (i : ℕ) → i ≤ passed d → Fails g (node-at d i) (drop i l) e f
+  -- The rest of the line fails from the node there.
+  rest-fails : {x e f : ℕ} {l : List ℕ} (d : FailsAlong g x l e f) (i : ℕ) → i ≤ passed d → FailsAlong g (node-at d i) (drop i l) e f
   unfolding passed node-at
   rest-fails (bad-end b) zero h = bad-end b
   rest-fails (bad-end b) (suc i) h = absurd (omega arith)
@@ -63,10 +63,10 @@ module _ (g : Graph) where
   rest-fails (goes-on t d) zero h = goes-on t d
   rest-fails (goes-on t d) (suc i) h = rest-fails d i (omega arith)
 
-  -- Another rest that fails from there makes a failing line too.
+  -- Another rest that fails from there also makes a failing line.
   splice :
-      {x e f : ℕ} {l : List ℕ} (d : Fails g x l e f) (i : ℕ) (m : List ℕ) → i ≤ passed d →
-      Fails g (node-at d i) m e f → Fails g x (take i l ++ m) e f
+      {x e f : ℕ} {l : List ℕ} (d : FailsAlong g x l e f) (i : ℕ) (m : List ℕ) → i ≤ passed d →
+      FailsAlong g (node-at d i) m e f → FailsAlong g x (take i l ++ m) e f
   unfolding passed node-at
   splice (bad-end b) zero m h r = r
   splice (bad-end b) (suc i) m h r = absurd (omega arith)
@@ -76,23 +76,23 @@ module _ (g : Graph) where
   splice (goes-on t d) (suc i) m h r = goes-on t (splice d i m (omega arith) r)
 
   -- The line up to the lamp at which it fails.
-  cut : {x e f : ℕ} {l : List ℕ} (d : Fails g x l e f) → Fails g x (take (suc (passed d)) l) e f
+  cut : {x e f : ℕ} {l : List ℕ} (d : FailsAlong g x l e f) → FailsAlong g x (take (suc (passed d)) l) e f
   unfolding passed
   cut (bad-end b) = bad-end b
   cut (bad-lamp b) = bad-lamp b
   cut (goes-on t d) = goes-on t (cut d)
 
--- Of the nodes of which `In` holds, those that can be left have codes below M, each its own; and edges lead from them to such
--- nodes.
+-- Nodes for which `In` holds and which have an edge have codes below M, each its own. Their edges lead to nodes for which `In`
+-- holds.
 pub record Coded (g : Graph) (In : ℕ → Type 0) (code : ℕ → ℕ) (M : ℕ) : Type 0 where
   pub to-in : (x c y : ℕ) → In x → g .To x c y → In y
   pub code-bound : (x c y : ℕ) → In x → g .To x c y → code x < M
   pub code-own : (x c y x′ c′ y′ : ℕ) → In x → g .To x c y → In x′ → g .To x′ c′ y′ → code x ≡ code x′ → x ≡ x′
 
 module _ (g : Graph) (In : ℕ → Type 0) (code : ℕ → ℕ) (M : ℕ) (coded : Coded g In code M) where
-  -- The node at a lamp that is passed is left there.
+  -- The node at a lamp that is passed has an edge there.
   left-at :
-      {x e f : ℕ} {l : List ℕ} (d : Fails g x l e f) → In x → (i : ℕ) → i < passed g d →
+      {x e f : ℕ} {l : List ℕ} (d : FailsAlong g x l e f) → In x → (i : ℕ) → i < passed g d →
       (c : ℕ) × (y : ℕ) × In (node-at g d i) × g .To (node-at g d i) c y
   unfolding passed node-at
   left-at (bad-end b) x-in i h = absurd (omega arith)
@@ -102,10 +102,10 @@ module _ (g : Graph) (In : ℕ → Type 0) (code : ℕ → ℕ) (M : ℕ) (coded
 
   -- A failing line with fewer lamps.
   abbrev pub Shorter : ℕ → List ℕ → ℕ → ℕ → Type 0
-  Shorter x l e f = (m : List ℕ) × (length m < length l) × Kinds (g .kinds) m × Fails g x m e f
+  Shorter x l e f = (m : List ℕ) × (length m < length l) × Kinds (g .kinds) m × FailsAlong g x m e f
 
-  -- From such a node a failing line with more than M + 1 lamps is not a shortest one.
-  pub shorter : {x e f : ℕ} {l : List ℕ} → Fails g x l e f → In x → Kinds (g .kinds) l → M + 1 < length l → Shorter x l e f
+  -- From such a node, a failing line with more than M + 1 lamps is not a shortest one.
+  pub shorter : {x e f : ℕ} {l : List ℕ} → FailsAlong g x l e f → In x → Kinds (g .kinds) l → M + 1 < length l → Shorter x l e f
   shorter {x} {e} {f} {l} d x-in v long = go (decLt M (passed g d))
     where
       go : Dec (M < passed g d) → Shorter x l e f
@@ -123,7 +123,7 @@ module _ (g : Graph) (In : ℕ → Type 0) (code : ℕ → ℕ) (M : ℕ) (coded
             short,
             kinds-append (g .kinds) (take i l) (drop j l) (kinds-take (g .kinds) i l v) (kinds-drop (g .kinds) j l v),
             splice g d i (drop j l) (omega (arith, r .in-order, r .in-range))
-                (subst (λ (z : ℕ). Fails g z (drop j l) e f) (sym same) (rest-fails g d j (omega (arith, r .in-range)))),
+                (subst (λ (z : ℕ). FailsAlong g z (drop j l) e f) (sym same) (rest-fails g d j (omega (arith, r .in-range)))),
           )
             where
               i : ℕ
@@ -142,7 +142,7 @@ module _ (g : Graph) (In : ℕ → Type 0) (code : ℕ → ℕ) (M : ℕ) (coded
               short =
                   simp (length-append, length-take, length-drop) (omega (arith, r .in-order, r .in-range, passed-bound g d))
 
-  -- Where all starts begin with such nodes, a least failing line has at most M + 1 lamps.
+  -- If all starts begin at such nodes, a least failing line has at most M + 1 lamps.
   pub least-short :
       ((s x : ℕ) → g .Start s x → In x) → (s : ℕ) (l : List ℕ) (e f : ℕ) → Least g l e s f → length l ≤ M + 1
   least-short start-in s l e f least = go (decLt (M + 1) (length l))

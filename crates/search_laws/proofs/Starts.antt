@@ -1,4 +1,4 @@
--- The beginning of the search: the starts are taken in order, each with its nodes, and are tested at the ends of the empty line.
+-- The beginning of the search: the starts are taken in order, each with its node, and are tested at the ends of the empty line.
 use mathlib.Core.Path.{_≡_, refl, sym, ap, subst}
 use mathlib.Core.Logic.{_≢_, _⊎_, inl, inr, ⊎-elim}
 use mathlib.Core.List.{List, [], _∷_}
@@ -7,28 +7,27 @@ use native.Mathlib.Omega.{arith}
 use lib.ListN.{length, length-append}
 use Rattle.lamp_line.specs.Lists.{_≼_}
 use Rattle.lamp_line.specs.Tables.{Kinds}
-use Rattle.search_laws.specs.Lists.{_▸_, _≺_}
+use Rattle.search_laws.specs.inner.Lists.{_▸_, _≺_}
 use Rattle.search_laws.proofs.Lex.{≼-trans}
 use Rattle.search_laws.proofs.Keys.{stem, key, lineKey, stem-longer, key-by-stem, key-start, key-end}
-use Rattle.search_laws.specs.Graph.{Graph, Kind, Fails, bad-end, Reach, from-start, FailsFrom}
+use Rattle.search_laws.specs.inner.Graph.{Graph, Kind, FailsAlong, bad-end, Reach, from-start, FailsFrom}
 use Rattle.search_laws.proofs.Graph.{Least}
-use Rattle.search_laws.specs.Entries.{Entry, entry, node, start, path, grown}
+use Rattle.search_laws.specs.inner.Entries.{Entry, entry, node, start, path, grown}
 use Rattle.search_laws.proofs.Table.{keyOf, stemOf, Known}
-use Rattle.search_laws.proofs.Grown.{below-or-not, below-or-last, grown-length, was-at, grown-all, grown-pairs}
-use Rattle.search_laws.proofs.Grown.{known-grown, known-new}
-use Rattle.search_laws.proofs.Invariant.{Tried, GroupTried, Invariant}
-use Rattle.search_laws.proofs.NextGroup.{behind-later}
+use Rattle.search_laws.proofs.Grown.{below-or-not, below-or-last, grown-length, was-at, grown-all, grown-pairs, known-grown, known-new}
+use Rattle.search_laws.proofs.Invariant.{IsTried, GroupTried, Invariant}
+use Rattle.search_laws.proofs.NextGroup.{keys-after-later}
 
 -- The starts below q are taken, and the first n entries are tested.
 pub record StartsTaken (g : Graph) (E : List Entry) (q n : ℕ) : Type 0 where
   -- Their nodes are in the table, with the empty line.
   pub roots : (s x : ℕ) → s < q → g .Start s x → Known E x s []
   pub empty : (i : ℕ) → i < length E → path E i ≡ []
-  -- The table holds nodes of these starts alone, in the order of the starts.
+  -- The table holds only nodes of these starts, in the order of the starts.
   pub taken : (i : ℕ) → i < length E → start E i < q
   pub marked : (i : ℕ) → i < length E → g .Start (start E i) (node E i)
   pub sorted : (i j : ℕ) → i < j → j < length E → start E i < start E j
-  -- No node stands twice in the table.
+  -- No node is in the table twice.
   pub distinct : (i j : ℕ) → i < j → j < length E → node E i ≢ node E j
   -- None of the first n entries fails at an end.
   pub ends-good : (i e f : ℕ) → i < n → e < g .ends → ¬ (g .BadEnd (node E i) e f)
@@ -39,7 +38,7 @@ pub data Early (g : Graph) (E : List Entry) (n : ℕ) : ℕ → ℕ → ℕ → 
   early : {e f : ℕ} (i : ℕ) → n ≤ i → i < length E → e < g .ends → g .BadEnd (node E i) e f → Early g E n e (start E i) f
 
 module _ {g : Graph} {E : List Entry} {q n : ℕ} (b : StartsTaken g E q n) where
-  -- The start q has no node.
+  -- The number q has no node: it is skipped.
   pub skip-start : ((x : ℕ) → ¬ (g .Start q x)) → StartsTaken g E (q + 1) n
   skip-start none =
       record {
@@ -55,7 +54,7 @@ module _ {g : Graph} {E : List Entry} {q n : ℕ} (b : StartsTaken g E q n) wher
         n≤length = b .n≤length;
       }
 
-  -- The start q has this node alone, and it is new.
+  -- The start q has only this node, and it is new: it is added.
   pub take-start :
       (x : ℕ) → g .Start q x → ((x′ : ℕ) → g .Start q x′ → x′ ≡ x) → ((i : ℕ) → i < length E → node E i ≢ x) →
       StartsTaken g (grown E (entry x q [])) (q + 1) n
@@ -79,7 +78,8 @@ module _ {g : Graph} {E : List Entry} {q n : ℕ} (b : StartsTaken g E q n) wher
       root s x′ st′ (inl y) = known-grown E z (b .roots s x′ y st′)
       root s x′ st′ (inr y) = rw (y, only x′ (rw y at st′)) (known-new E z)
 
-  -- The least of the failures at hand is the least of all, where the starts that are not taken have later stems.
+  -- The least failure of the entries that are not tested yet is the least of all, if the starts that are not taken have later
+  -- stems.
   pub early-least :
       {e s f : ℕ} → Early g E n e s f → ((e′ s′ f′ : ℕ) → Early g E n e′ s′ f′ → key [] e s f ≼ key [] e′ s′ f′) →
       ((s′ x : ℕ) → q ≤ s′ → g .Start s′ x → stem s [] ≺ stem s′ []) → Least g [] e s f
@@ -89,7 +89,7 @@ module _ {g : Graph} {E : List Entry} {q n : ℕ} (b : StartsTaken g E q n) wher
       fails (early i x l le h) =
           record { first = node E i; start = b .marked i l; of-kinds = unfold Kinds in tt; ended = le; fails = bad-end h }
 
-      bad : {x e′ f′ : ℕ} → Fails g x [] e′ f′ → g .BadEnd x e′ f′
+      bad : {x e′ f′ : ℕ} → FailsAlong g x [] e′ f′ → g .BadEnd x e′ f′
       bad (bad-end h) = h
 
       of-all : (s′ : ℕ) (l′ : List ℕ) (e′ f′ : ℕ) → FailsFrom g s′ l′ e′ f′ → key [] e s f ≼ key l′ e′ s′ f′
@@ -112,7 +112,7 @@ module _ {g : Graph} {E : List Entry} {q n : ℕ} (b : StartsTaken g E q n) wher
           go (inr h) = key-by-stem [] [] e e′ s s′ f f′ (others s′ (d .first) h (d .start))
       of-all s′ (c ∷ l′) e′ f′ d = key-by-stem [] (c ∷ l′) e e′ s s′ f f′ (stem-longer s s′ [] (c ∷ l′) (omega arith))
 
-  -- All entries are tested, where nothing failed.
+  -- If none of them fails, all entries are tested.
   pub starts-tested : ((e s f : ℕ) → ¬ (Early g E n e s f)) → StartsTaken g E q (length E)
   starts-tested none =
       record {
@@ -127,7 +127,7 @@ module _ {g : Graph} {E : List Entry} {q n : ℕ} (b : StartsTaken g E q n) wher
         n≤length = omega arith;
       }
 
--- All starts are taken and tested. The first group goes up to where the stem changes, and its first kind is next.
+-- All starts are taken and tested. The first group ends where the stem changes, and is tried with the first kind next.
 module _ {g : Graph} {E : List Entry} {q : ℕ} (b : StartsTaken g E q (length E)) where
   pub first-group :
       (m : ℕ) → 0 < m → m ≤ length E → ((s x : ℕ) → g .Start s x → s < q) →
@@ -141,7 +141,7 @@ module _ {g : Graph} {E : List Entry} {q : ℕ} (b : StartsTaken g E q (length E
             subst (λ (p : List ℕ). Reach g (start E i) p (node E i)) (sym (b .empty i l)) (from-start (b .marked i l));
         sorted = in-order;
         one-stem = λ i x l. same i l;
-        later-stems = behind-later E 0 m in-order pos other;
+        later-stems = keys-after-later E 0 m in-order pos other;
         old-stems = λ i l.
             stem-longer (start E i) (start E 0) (path E i) (path E 0 ▸ 1)
             (omega (arith, ap length (b .empty i l), length-append (path E 0) (1 ∷ [])));
@@ -155,7 +155,7 @@ module _ {g : Graph} {E : List Entry} {q : ℕ} (b : StartsTaken g E q (length E
         n≤length = omega arith;
       }
     where
-      none-tried : (i c : ℕ) → Kind (g .kinds) c → ¬ (Tried 0 m 1 0 i c)
+      none-tried : (i c : ℕ) → Kind (g .kinds) c → ¬ (IsTried 0 m 1 0 i c)
       none-tried i c kc (inl x) = omega arith
       none-tried i c kc (inr (x, inl y)) = omega (arith, kc .low)
       none-tried i c kc (inr (x, inr (y, z))) = omega arith

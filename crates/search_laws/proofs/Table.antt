@@ -1,5 +1,5 @@
--- The table of the nodes found so far, in the order of their finding, and the law that carries the search: a failing line,
--- followed from entry to entry along the table, ends at an entry and a kind that were not tried yet, or at a failure of an entry.
+-- Laws of the search's table, and the central law of the search: if a failing line is followed from entry to entry through the
+-- table, this ends at an entry and a kind that were not tried yet, or at a failure of an entry.
 use mathlib.Core.Path.{_≡_, sym, subst}
 use mathlib.Core.List.{List, [], _∷_, _++_, append-nil}
 use Prim.Native.Nat.{ℕ, _≤_, _<_}
@@ -7,19 +7,19 @@ use native.Mathlib.Omega.{arith}
 use lib.ListN.{length}
 use Rattle.lamp_line.specs.Lists.{_≼_}
 use Rattle.lamp_line.specs.Tables.{Kinds}
-use Rattle.search_laws.specs.Lists.{_▸_}
-use Rattle.search_laws.specs.Entries.{Entry, entryAt, node, start, path}
+use Rattle.search_laws.specs.inner.Lists.{_▸_}
+use Rattle.search_laws.specs.inner.Entries.{Entry, entryAt, node, start, path}
 use Rattle.search_laws.proofs.Lex.{≼-trans}
 use Rattle.search_laws.proofs.Keys.{stem, key, lineKey, key-more, key-end, key-prefix}
-use Rattle.search_laws.specs.Graph.{Graph, Kind, Fails, bad-end, bad-lamp, goes-on, Reach, from-start, past-lamp}
-use Rattle.search_laws.specs.Graph.{FailsFrom}
+use Rattle.search_laws.specs.inner.Graph.{Graph, Kind, FailsAlong, bad-end, bad-lamp, goes-on, Reach, from-start, past-lamp}
+use Rattle.search_laws.specs.inner.Graph.{FailsFrom}
 use Rattle.search_laws.proofs.Graph.{snoc-append}
 
--- The key of its line.
+-- The key of an entry's line.
 abbrev pub entryKey : Entry → List ℕ
 entryKey v = lineKey (v .path) (v .start)
 
--- The stem of its line.
+-- The stem of an entry's line.
 abbrev pub entryStem : Entry → List ℕ
 entryStem v = stem (v .start) (v .path)
 
@@ -30,7 +30,7 @@ keyOf E i = entryKey (entryAt E i)
 abbrev pub stemOf : List Entry → ℕ → List ℕ
 stemOf E i = entryStem (entryAt E i)
 
--- The key and the stem of an entry's line with one lamp more.
+-- The key and the stem of an entry's line with one more lamp.
 abbrev pub keyOn : List Entry → ℕ → ℕ → List ℕ
 keyOn E i c = lineKey (path E i ▸ c) (start E i)
 
@@ -39,22 +39,22 @@ stemOn E i c = stem (start E i) (path E i ▸ c)
 
 -- ---- what was tried
 
--- The node is in the table, found no later than by this start and these lamps.
+-- The node is in the table, and its entry's line comes no later than this start and these lamps.
 pub record Known (E : List Entry) (y s : ℕ) (p : List ℕ) : Type 0 where
   pub place : ℕ
   pub there : place < length E
   pub same : node E place ≡ y
   pub early : keyOf E place ≼ lineKey p s
 
--- `Done i c` says that the entry i was tried with the kind c. Then the nodes to which it leads are known, and so are those of the
+-- `Done i c` says that the entry i was tried with the kind c. The nodes to which it leads are then known, and so are those of the
 -- starts.
 pub record Covers (g : Graph) (E : List Entry) (Done : ℕ → ℕ → Type 0) : Type 0 where
   pub roots : (s x : ℕ) → g .Start s x → Known E x s []
   pub on :
       (i c y : ℕ) → i < length E → Kind (g .kinds) c → Done i c → g .To (node E i) c y → Known E y (start E i) (path E i ▸ c)
 
--- Where a failing line leaves the table: at an entry and a kind that were not tried, or with a failure of an entry at a lamp of a
--- kind that was tried, or at an end. What it meets there comes no later than the line itself.
+-- Where a failing line leaves the table: at an entry and a kind that were not tried, at a failure of an entry at a lamp of a kind
+-- that was tried, or at a failure of an entry at an end. What is found there comes no later than the line itself.
 pub data Open (g : Graph) (E : List Entry) (Done : ℕ → ℕ → Type 0) (s : ℕ) (l : List ℕ) (e f : ℕ) : Type 0 where
   untried :
       (i c : ℕ) → i < length E → Kind (g .kinds) c → ¬ (Done i c) →
@@ -68,14 +68,14 @@ pub data Open (g : Graph) (E : List Entry) (Done : ℕ → ℕ → Type 0) (s : 
 
 -- ---- following a line
 
--- A node known so early is known for what comes later.
+-- A node that is known for a line is known for every later line.
 known-later :
     {E : List Entry} {y s : ℕ} {p : List ℕ} (s′ : ℕ) (p′ : List ℕ) → Known E y s p → lineKey p s ≼ lineKey p′ s′ → Known E y s′ p′
 known-later s′ p′ k h = record { place = k .place; there = k .there; same = k .same; early = ≼-trans _ _ _ (k .early) h }
 
 module _
     (g : Graph) (E : List Entry) (Done : ℕ → ℕ → Type 0) (done? : (i c : ℕ) → Dec (Done i c)) (covers : Covers g E Done) where
-  -- The line of an entry with one lamp more comes no later than any line for which the entry stands.
+  -- If an entry comes no later than a line, then with one more lamp it comes no later than any line that goes on by this lamp.
   on-early :
       (i c s e f f′ : ℕ) (p l : List ℕ) → f ≤ f′ → keyOf E i ≼ lineKey p s →
       key (path E i ▸ c) 0 (start E i) f ≼ key (p ++ (c ∷ l)) e s f′
@@ -95,7 +95,7 @@ module _
       (key-more (start E i) s (path E i) p c (k .early))
 
   follow :
-      {x e f : ℕ} (s : ℕ) (p r : List ℕ) → Known E x s p → Kinds (g .kinds) r → Fails g x r e f → Open g E Done s (p ++ r) e f
+      {x e f : ℕ} (s : ℕ) (p r : List ℕ) → Known E x s p → Kinds (g .kinds) r → FailsAlong g x r e f → Open g E Done s (p ++ r) e f
   unfolding Kinds
   follow {x} {e} {f} s p r k v (bad-end h) =
       subst (λ (z : List ℕ). Open g E Done s z e f) (sym (append-nil p))
@@ -128,7 +128,7 @@ module _
   pub fails-open : (s : ℕ) (l : List ℕ) (e f : ℕ) → FailsFrom g s l e f → Open g E Done s l e f
   fails-open s l e f d = follow s [] l (covers .roots s (d .first) (d .start)) (d .of-kinds) (d .fails)
 
-  -- Where all was tried, every node that is reached is known.
+  -- If every entry was tried with every kind, every node that is reached is known.
   pub reach-known :
       ((i c : ℕ) → i < length E → Kind (g .kinds) c → Done i c) → {s x : ℕ} {p : List ℕ} → Reach g s p x → Known E x s p
   reach-known all (from-start {s = s} {x = x} h) = covers .roots s x h

@@ -1,5 +1,5 @@
--- The turns of document 01's search, as its loops make them. There each entry has a stem of its own, so a group is one entry, and
--- a node has one edge or one failure, so the first failure that is met is the least.
+-- The turns of the search as the loops of 01, "The check", make them. Each entry has a stem that no other has, so a group is a
+-- single entry. A node has one edge or one failure, so the first failure that is met is the least.
 use mathlib.Core.Path.{_≡_, sym, ap, subst, _∙_}
 use mathlib.Core.Logic.{_≢_}
 use mathlib.Core.List.{List}
@@ -7,20 +7,20 @@ use Prim.Native.Nat.{ℕ, _+_, _≤_, _<_}
 use native.Mathlib.Omega.{arith}
 use lib.ListN.{length}
 use Rattle.lamp_line.specs.Lists.{_≼_}
-use Rattle.search_laws.specs.Lists.{_▸_, _≺_}
+use Rattle.search_laws.specs.inner.Lists.{_▸_, _≺_}
 use Rattle.search_laws.proofs.Lex.{≼-refl, ≺-irrefl}
 use Rattle.search_laws.proofs.Keys.{key}
-use Rattle.search_laws.specs.Graph.{Graph, Kind, Reach, FailsFrom, Plain}
+use Rattle.search_laws.specs.inner.Graph.{Graph, Kind, Reach, FailsFrom, Plain}
 use Rattle.search_laws.proofs.Graph.{Least, lowest-end-first}
-use Rattle.search_laws.specs.Entries.{Entry, entryAt, node, start, path, grown, onward}
+use Rattle.search_laws.specs.inner.Entries.{Entry, entryAt, node, start, path, grown, onward}
 use Rattle.search_laws.proofs.Table.{entryStem, stemOf, Known}
 use Rattle.search_laws.proofs.Grown.{grown-length, grown-new, still-at, was-at, grown-pairs, known-new}
 use Rattle.search_laws.proofs.Invariant.{Invariant}
 use Rattle.search_laws.proofs.GroupMember.{seen, member-done, add}
-use Rattle.search_laws.proofs.GroupKind.{Found, at-lamp, at-end, found-least, kind-done}
+use Rattle.search_laws.proofs.GroupKind.{AtHand, at-lamp, at-end, found-least, kind-done}
 use Rattle.search_laws.proofs.NextGroup.{group-done, none-fails, reached-known}
 
--- The loops stand at the entry h and the kind k: the entries before h were tried with all kinds, and h with the kinds below k.
+-- The loops are at the entry h and the kind k: the entries before h were tried with all kinds, and h with the kinds below k.
 pub record At (g : Graph) (E : List Entry) (h k : ℕ) : Type 0 where
   pub inv : Invariant g E h (h + 1) k h (length E)
   pub strict : (i j : ℕ) → i < j → j < length E → stemOf E i ≺ stemOf E j
@@ -32,7 +32,7 @@ module _ (g : Graph) (E : List Entry) (h k : ℕ) (at : At g E h k) where
   only : (i : ℕ) → h ≤ i → i < h + 1 → i ≡ h
   only i x y = omega arith
 
-  -- The lamp does not fail, and every node to which the entry leads is in the table: the next kind.
+  -- The lamp does not fail, and every node to which the entry leads is in the table: the next kind is tried.
   pub turn-quiet :
       ((f : ℕ) → ¬ (g .Bad (node E h) k f)) →
       ((y : ℕ) → g .To (node E h) k y → (j : ℕ) × (j < length E) × (node E j ≡ y)) → At g E h (k + 1)
@@ -41,7 +41,7 @@ module _ (g : Graph) (E : List Entry) (h k : ℕ) (at : At g E h k) where
       tried : Invariant g E h (h + 1) k (h + 1) (length E)
       tried = member-done (at .inv) here (λ y t. let (j, l, e) = met y t in seen (at .inv) here j y l e)
 
-      none : (l : List ℕ) (e s f : ℕ) → ¬ (Found g E h (h + 1) k (length E) l e s f)
+      none : (l : List ℕ) (e s f : ℕ) → ¬ (AtHand g E h (h + 1) k (length E) l e s f)
       none l e s f (at-lamp i x y b) = good f (subst (λ (j : ℕ). g .Bad (node E j) k f) (only i x y) b)
       none l e s f (at-end i x y le b) = omega arith
 
@@ -54,7 +54,7 @@ module _ (g : Graph) (E : List Entry) (h k : ℕ) (at : At g E h k) where
         tried = member-done (at .inv) here (λ y t. absurd (plain .bad-to (node E h) k f y b t))
 
         least :
-            (l′ : List ℕ) (e′ s′ f′ : ℕ) → Found g E h (h + 1) k (length E) l′ e′ s′ f′ →
+            (l′ : List ℕ) (e′ s′ f′ : ℕ) → AtHand g E h (h + 1) k (length E) l′ e′ s′ f′ →
             key (path E h ▸ k) 0 (start E h) f ≼ key l′ e′ s′ f′
         least l′ e′ s′ f′ (at-lamp i x y b′) =
             let q = only i x y in
@@ -94,7 +94,7 @@ module _ (g : Graph) (E : List Entry) (h k : ℕ) (at : At g E h k) where
           subst (λ (v : Entry). g .BadEnd (v .node) e f)
           (ap (entryAt (grown E z)) (is-last i x l) ∙ grown-new E z) b
 
-      -- It fails at no end: it is added, and the next kind comes.
+      -- The node fails at no end: it is added, and the next kind is tried.
       pub turn-add : ((e f : ℕ) → e < g .ends → ¬ (g .BadEnd y e f)) → At g (grown E (onward E h k y)) h (k + 1)
       unfolding z
       turn-add good =
@@ -103,11 +103,11 @@ module _ (g : Graph) (E : List Entry) (h k : ℕ) (at : At g E h k) where
             strict = grown-pairs E z (λ u v. entryStem u ≺ entryStem v) (at .strict) (at .inv .old-stems);
           }
         where
-          none : (l : List ℕ) (e s f : ℕ) → ¬ (Found g (grown E z) h (h + 1) k (length E) l e s f)
+          none : (l : List ℕ) (e s f : ℕ) → ¬ (AtHand g (grown E z) h (h + 1) k (length E) l e s f)
           none l e s f (at-lamp i x l′ b) = lamp-good i f x l′ b
           none l e s f (at-end i x l′ le b) = good e f le (new-end i e f x l′ b)
 
-      -- It fails at an end, and e is the lowest: the line that leads to it is the least failing line.
+      -- The node fails at an end, and e is the lowest such: the line that leads to it is the least failing line.
       pub fails-end :
           (e f : ℕ) → e < g .ends → g .BadEnd y e f → ((e′ f′ : ℕ) → e′ < e → ¬ (g .BadEnd y e′ f′)) →
           Least g (path E h ▸ k) e (start E h) f
@@ -121,7 +121,7 @@ module _ (g : Graph) (E : List Entry) (h k : ℕ) (at : At g E h k) where
           there = subst (λ (v : Entry). g .BadEnd (v .node) e f) (sym (grown-new E z)) b
 
           least :
-              (l′ : List ℕ) (e′ s′ f′ : ℕ) → Found g (grown E z) h (h + 1) k (length E) l′ e′ s′ f′ →
+              (l′ : List ℕ) (e′ s′ f′ : ℕ) → AtHand g (grown E z) h (h + 1) k (length E) l′ e′ s′ f′ →
               key (path (grown E z) (length E)) e (start (grown E z) (length E)) f ≼ key l′ e′ s′ f′
           least l′ e′ s′ f′ (at-lamp i x l b′) = absurd (lamp-good i f′ x l b′)
           least l′ e′ s′ f′ (at-end i x l le′ b′) =
@@ -131,7 +131,7 @@ module _ (g : Graph) (E : List Entry) (h k : ℕ) (at : At g E h k) where
 
 -- The entry h was tried with all kinds.
 module _ (g : Graph) (E : List Entry) (h : ℕ) (at : At g E h (g .kinds + 1)) where
-  -- The next entry, from the first kind on.
+  -- There is a next entry: it is tried from the first kind on.
   pub turn-next : h + 1 < length E → At g E (h + 1) 1
   turn-next l =
       record {
@@ -151,6 +151,6 @@ module _ (g : Graph) (E : List Entry) (h : ℕ) (at : At g E h (g .kinds + 1)) w
     pub accepted : (s : ℕ) (l : List ℕ) (e f : ℕ) → ¬ (FailsFrom g s l e f)
     accepted = none-fails (at .inv) end
 
-    -- And every node that is reached is in the table.
+    -- There is no further entry: every node that is reached is in the table.
     pub reached-in-table : {s x : ℕ} {p : List ℕ} → Reach g s p x → (j : ℕ) × (j < length E) × (node E j ≡ x)
     reached-in-table r = let k = reached-known (at .inv) end r in (k .place, k .there, k .same)

@@ -1,4 +1,4 @@
--- The kinds are the front of the buffer.
+-- The kinds are the first bytes of the line buffer.
 use borrow.Author.Needs.{needs}
 use mathlib.Core.Path.{sym}
 use native.Mathlib.Omega.{arith}

@@ -1,4 +1,4 @@
--- The pieces of the line, one behind the other; each number takes at most eleven bytes.
+-- The pieces of the line, one after the other; each number takes at most eleven bytes.
 use borrow.Author.Needs.{needs}
 use mathlib.Core.Path.{refl, _∙_}
 use mathlib.Core.List.{_∷_}
@@ -8,6 +8,25 @@ use Rattle.lamp_line.specs.Endings.{kindNumber}
 use Rattle.answer_line.proofs.Writing.{wrote-number, wrote-then}
 use Rattle.answer_line.proofs.failure_line.Statement.{statement}
 use Rattle.answer_line.proofs.failure_line.Tie as tie
+
+-- ---- the last piece that was written, before each next one
+
+abbrev word-of : tie.After-wide → tie.After-put-word
+word-of c = c .before .before .before .before .before
+
+abbrev kind-of : tie.After-wide2 → tie.After-put-number
+kind-of c = c .before .before .before .before
+
+abbrev start-of : tie.After-put-number-arg3 → tie.After-put-number2
+start-of c = c .before .before .before
+
+abbrev count-of : tie.After-put-bytes-arg → tie.After-put-number3
+count-of c = c .before .before .before
+
+abbrev kinds-of : tie.After-put-byte-arg → tie.After-put-bytes
+kinds-of c = c .before .before .before
+
+-- ---- the needs
 
 slice-aggregate-put-word : tie.Need-slice-aggregate-put-word
 slice-aggregate-put-word c = search needs
@@ -29,8 +48,8 @@ wide-requires-2 c κs = search needs
 
 put-number-requires-2 : tie.Need-put-number-requires-2
 put-number-requires-2 c κs =
-    let k = c .before .before .before .before in
-    let w = k .before .before .before .before .before .before in
+    let k = kind-of c in
+    let w = word-of (k .before) in
     omega (arith, k .put-number .ensures .1, w .put-word .ensures .place, w .put-word .kept .0, k .put-number .kept .0)
 
 cast-put-number : tie.Need-cast-put-number
@@ -38,26 +57,26 @@ cast-put-number c = search needs
 
 put-number-requires-3 : tie.Need-put-number-requires-3
 put-number-requires-3 c κs =
-    let s = c .before .before .before in
-    let k = s .before .before .before .before .before in
-    let w = k .before .before .before .before .before .before in
+    let s = start-of c in
+    let k = kind-of (s .before) in
+    let w = word-of (k .before) in
     omega (arith, k .put-number .ensures .1, s .put-number2 .ensures .1, w .put-word .ensures .place, w .put-word .kept .0, k .put-number .kept .0, s .put-number2 .kept .0)
 
 put-bytes-requires : tie.Need-put-bytes-requires
 put-bytes-requires c κs =
-    let n = c .before .before .before in
-    let s = n .before .before .before .before in
-    let k = s .before .before .before .before .before in
-    let w = k .before .before .before .before .before .before in
+    let n = count-of c in
+    let s = start-of (n .before) in
+    let k = kind-of (s .before) in
+    let w = word-of (k .before) in
     omega (arith, k .put-number .ensures .1, s .put-number2 .ensures .1, n .put-number3 .ensures .1, w .put-word .ensures .place, w .put-word .kept .0, k .put-number .kept .0, s .put-number2 .kept .0, n .put-number3 .kept .0)
 
 put-byte-requires : tie.Need-put-byte-requires
 put-byte-requires c κs =
-    let b = c .before .before .before in
-    let n = b .before .before .before .before in
-    let s = n .before .before .before .before in
-    let k = s .before .before .before .before .before in
-    let w = k .before .before .before .before .before .before in
+    let b = kinds-of c in
+    let n = count-of (b .before) in
+    let s = start-of (n .before) in
+    let k = kind-of (s .before) in
+    let w = word-of (k .before) in
     omega (arith, k .put-number .ensures .1, s .put-number2 .ensures .1, n .put-number3 .ensures .1, b .put-bytes .ensures .1, w .put-word .ensures .place, w .put-word .kept .0, k .put-number .kept .0, s .put-number2 .kept .0, n .put-number3 .kept .0, b .put-bytes .kept .0)
 
 same-length : tie.Need-same-length
@@ -66,11 +85,11 @@ same-length c = search needs
 returns : tie.Need-returns
 returns c =
     let e = c .before .before in
-    let b = e .before .before .before .before in
-    let n = b .before .before .before .before in
-    let s = n .before .before .before .before in
-    let k = s .before .before .before .before .before in
-    let w = k .before .before .before .before .before .before in
+    let b = kinds-of (e .before) in
+    let n = count-of (b .before) in
+    let s = start-of (n .before) in
+    let k = kind-of (s .before) in
+    let w = word-of (k .before) in
     let a = w .before .before .before .before .before .args in
     let kinds = a .kinds .now in
     let count = wrote-number (length kinds) _ kinds refl (n .put-number3 .ensures .0) (b .put-bytes .ensures .0) in

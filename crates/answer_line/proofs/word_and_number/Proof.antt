@@ -1,4 +1,4 @@
--- The pieces of the line, one behind the other.
+-- The pieces of the line, one after the other.
 use borrow.Author.Needs.{needs}
 use native.Mathlib.Omega.{arith}
 use Rattle.answer_line.proofs.Writing.{wrote-then}

@@ -1,11 +1,11 @@
--- The reader's refusal is handed on; with a file that is not refused the job's first state is the tables'.
+-- The reader's refusal is handed on. For a file that is not refused, the job's first state is that of the tables.
 use borrow.Author.Needs.{needs}
 use mathlib.Core.Path.{sym, ap, _∙_}
 use Rattle.lamp_line.specs.declared.ProgramState.{ProgramState}
 use Rattle.job_file.proofs.Opening.{reading-refused}
 use Rattle.job_tables.proofs.Ranges.{first-is}
 use Rattle.cabinet.specs.declared.BeginAnswer.the-variants.{Begun}
-use Rattle.cabinet.proofs.CabinetRules.{begin-file-refused, begin-opened}
+use Rattle.cabinet.proofs.Answering.{begin-file-refused, begin-opened}
 use Rattle.cabinet.proofs.begin.Statement.{statement}
 use Rattle.cabinet.proofs.begin.Tie as tie
 
@@ -25,7 +25,7 @@ returns : tie.Need-returns
 returns c =
     let r = c .before .before .before in
     let a = r .before .before .args in
-    begin-file-refused (a .file .now) (c .refusal-number .result)
+    begin-file-refused (a .file .now)
     (reading-refused (a .file .now) _ _ _ (r .read-job .ensures) (c .before .enum-told .given .1) (c .refusal-number .ensures))
     (a .count)
 
@@ -34,10 +34,9 @@ returns-2 c =
     let g = c .before .before in
     let r = g .before .before in
     let a = r .before .before .args in
-    let job = g .reading .given .0 .0 in
     let opened = sym (r .read-job .ensures) ∙ g .reading .given .1 in
-    ap (λ (q : ProgramState). Begun (record { state = q; lamps = a .count })) (first-is (a .file .now) job opened)
-    ∙ sym (begin-opened (a .file .now) job opened (a .count))
+    ap (λ (q : ProgramState). Begun (record { state = q; lamps = a .count })) (first-is (a .file .now) _ opened)
+    ∙ sym (begin-opened (a .file .now) opened (a .count))
 
 pub begin-spec : {M : Type 1} → statement M
 begin-spec =

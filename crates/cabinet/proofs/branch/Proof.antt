@@ -1,6 +1,6 @@
 -- A result that is not below R has no branch in the tables; below R the plan's row is read.
 use borrow.Author.Needs.{needs}
-use Rattle.cabinet.proofs.CabinetSteps.{no-branch-outside}
+use Rattle.cabinet.proofs.Branches.{no-branch-outside}
 use Rattle.cabinet.proofs.branch.Statement.{statement}
 use Rattle.cabinet.proofs.branch.Tie as tie
 

@@ -1,4 +1,4 @@
--- Nothing is promised of the answer; the measure is the number of words left.
+-- Nothing is promised about the answer; the measure is the number of words left.
 use borrow.Author.Needs.{needs}
 use Prim.Native.Nat.{_≤_, _-_}
 use lib.ListN.{length}

@@ -1,7 +1,6 @@
 -- Each test is the next rule's.
 use borrow.Author.Needs.{needs}
-use mathlib.Core.Path.{sym, _∙_}
-use Rattle.job_file.proofs.ReadingLaws.{by-cells}
+use Rattle.job_file.proofs.ReadingLaws.{mark-refused, cell-refused, end-refused, cells-read}
 use Rattle.job_file.proofs.read_parts.Statement.{statement}
 use Rattle.job_file.proofs.read_parts.Tie as tie
 
@@ -9,7 +8,7 @@ mark-wrong-requires : tie.Need-mark-wrong-requires
 mark-wrong-requires c κs = search needs
 
 returns : tie.Need-returns
-returns c = sym (by-cells _ _ ∙ rw (sym (c .before .mark-wrong .ensures) ∙ c .if1 .taken))
+returns c = search mark-refused
 
 cell-wrong-requires : tie.Need-cell-wrong-requires
 cell-wrong-requires c κs = search needs
@@ -18,37 +17,16 @@ end-wrong-requires : tie.Need-end-wrong-requires
 end-wrong-requires c κs = search needs
 
 returns-2 : tie.Need-returns-2
-returns-2 c =
-    let m = c .before .before .before in
-    sym (by-cells _ _
-    ∙ rw (sym (m .before .mark-wrong .ensures) ∙ m .if1 .left, sym (c .before .before .cell-wrong .ensures) ∙ c .if2 .taken))
+returns-2 c = search cell-refused
 
 returns-3 : tie.Need-returns-3
-returns-3 c =
-    let b = c .before .before in
-    let m = b .before .before in
-    sym (by-cells _ _
-    ∙ rw (
-      sym (m .before .mark-wrong .ensures) ∙ m .if1 .left,
-      sym (b .before .cell-wrong .ensures) ∙ c .before .if2 .left,
-      sym (b .end-wrong .ensures) ∙ c .if3 .taken,
-    ))
+returns-3 c = search end-refused
 
 read-starts-and-goal-requires : tie.Need-read-starts-and-goal-requires
 read-starts-and-goal-requires c κs = search needs
 
 returns-4 : tie.Need-returns-4
-returns-4 c =
-    let e = c .before in
-    let b = e .before .before in
-    let m = b .before .before in
-    c .read-starts-and-goal .ensures
-    ∙ sym (by-cells _ _
-    ∙ rw (
-      sym (m .before .mark-wrong .ensures) ∙ m .if1 .left,
-      sym (b .before .cell-wrong .ensures) ∙ e .before .if2 .left,
-      sym (b .end-wrong .ensures) ∙ e .if3 .left,
-    ))
+returns-4 c = search cells-read
 
 pub read-parts-spec : {M : Type 1} → statement M
 read-parts-spec =

@@ -1,7 +1,6 @@
 -- Each test is the next rule's.
 use borrow.Author.Needs.{needs}
-use mathlib.Core.Path.{sym, _∙_}
-use Rattle.job_file.proofs.ReadingLaws.{by-plan}
+use Rattle.job_file.proofs.ReadingLaws.{action-refused, target-refused, plan-read}
 use Rattle.job_file.proofs.read_plan.Statement.{statement}
 use Rattle.job_file.proofs.read_plan.Tie as tie
 
@@ -12,19 +11,13 @@ target-wrong-requires : tie.Need-target-wrong-requires
 target-wrong-requires c κs = search needs
 
 returns : tie.Need-returns
-returns c = sym (by-plan _ _ ∙ rw (sym (c .before .before .action-wrong .ensures) ∙ c .if1 .taken))
+returns c = search action-refused
 
 returns-2 : tie.Need-returns-2
-returns-2 c =
-    let b = c .before .before in
-    sym (by-plan _ _
-    ∙ rw (sym (b .before .action-wrong .ensures) ∙ c .before .if1 .left, sym (b .target-wrong .ensures) ∙ c .if2 .taken))
+returns-2 c = search target-refused
 
 returns-3 : tie.Need-returns-3
-returns-3 c =
-    let b = c .before .before in
-    sym (by-plan _ _
-    ∙ rw (sym (b .before .action-wrong .ensures) ∙ c .before .if1 .left, sym (b .target-wrong .ensures) ∙ c .if2 .left))
+returns-3 c = search plan-read
 
 pub read-plan-spec : {M : Type 1} → statement M
 read-plan-spec =

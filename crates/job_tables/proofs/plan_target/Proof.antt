@@ -1,7 +1,8 @@
 -- The target's place lies in the file, and its byte is the table's.
 use borrow.Author.Needs.{needs}
-use native.Mathlib.Omega.{arith}
-use Rattle.job_tables.proofs.Lookups.{target-in, no-target, some-target}
+use Rattle.job_layout.proofs.Bounds.{below-fits, targets-in, target-in}
+use Rattle.job_tables.proofs.Lookups.{no-target, some-target}
+use Rattle.job_tables.proofs.Ranges.{laid-out}
 use Rattle.job_tables.proofs.plan_target.Statement.{statement}
 use Rattle.job_tables.proofs.plan_target.Tie as tie
 
@@ -9,33 +10,19 @@ action-place-requires : tie.Need-action-place-requires
 action-place-requires c κs = search needs
 
 add-at : tie.Need-add-at
-add-at c =
-    let b = c .before .before in
-    omega (arith, c .action-place .ensures, target-in (b .args .file .now) (b .args .job) (b .pre .0) (b .args .state) (b .args .result) (b .pre .1) (b .pre .2))
+add-at c = search (below-fits, targets-in, laid-out)
 
 add-at-2 : tie.Need-add-at-2
-add-at-2 c =
-    let b = c .before .before in
-    omega (arith, c .action-place .ensures, target-in (b .args .file .now) (b .args .job) (b .pre .0) (b .args .state) (b .args .result) (b .pre .1) (b .pre .2))
+add-at-2 c = search (below-fits, target-in, laid-out)
 
 shared-slice-read-target : tie.Need-shared-slice-read-target
-shared-slice-read-target c =
-    let b = c .before .before .before in
-    rw (c .before .action-place .ensures)
-    (target-in (b .args .file .now) (b .args .job) (b .pre .0) (b .args .state) (b .args .result) (b .pre .1) (b .pre .2))
+shared-slice-read-target c = search (target-in, laid-out)
 
 returns : tie.Need-returns
-returns c =
-    let b = c .before .before .before .before in
-    no-target (b .args .file .now) (b .args .job) (b .pre .0) (b .args .state) (b .args .result) (b .pre .1) (b .pre .2)
-    (rw (c .before .before .action-place .ensures) at (c .if1 .taken))
+returns c = search no-target
 
 returns-2 : tie.Need-returns-2
-returns-2 c =
-    let b = c .before .before .before .before in
-    rw (c .before .before .action-place .ensures)
-    (some-target (b .args .file .now) (b .args .job) (b .pre .0) (b .args .state) (b .args .result) (b .pre .1) (b .pre .2)
-    (rw (c .before .before .action-place .ensures) at (c .if1 .left)))
+returns-2 c = search some-target
 
 pub plan-target-spec : {M : Type 1} → statement M
 plan-target-spec =

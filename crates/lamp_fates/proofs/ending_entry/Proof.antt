@@ -1,7 +1,7 @@
 -- Each arm is the entry of its ending.
 use borrow.Author.Needs.{needs}
-use Prim.Native.Nat.{_+_}
 use mathlib.Core.Path.{ap}
+use Prim.Native.Nat.{ℕ, _+_}
 use Rattle.lamp_fates.proofs.ending_entry.Statement.{statement}
 use Rattle.lamp_fates.proofs.ending_entry.Tie as tie
 
@@ -24,7 +24,7 @@ returns : tie.Need-returns
 returns c = search needs
 
 returns-2 : tie.Need-returns-2
-returns-2 c = rw (c .before .before .ending .given .1) (ap (_+_ 1) (c .failure-number .ensures))
+returns-2 c = rw (c .before .before .ending .given .1) (ap (λ (n : ℕ). 1 + n) (c .failure-number .ensures))
 
 pub ending-entry-spec : {M : Type 1} → statement M
 ending-entry-spec =

@@ -5,7 +5,7 @@ use mathlib.Core.Path.{_≡_, ap₂}
 use Prim.Native.Nat.{ℕ, _+_, _*_, _≤_}
 use Rattle.lamp_line.proofs.Products.{product-le}
 use Rattle.lamp_line.specs.Run.{Pair, pair}
-use Rattle.run_laws.specs.Pairs.{pairNumber}
+use Rattle.run_laws.specs.inner.Pairs.{pairNumber}
 use Rattle.lamp_fates.proofs.entry_place.Statement.{statement}
 use Rattle.lamp_fates.proofs.entry_place.Tie as tie
 

@@ -1,4 +1,4 @@
--- The walk comes to the fate, and the memory is one again once the fate is written along the links.
+-- The walk finds the fate, and once the fate is written along the links no link is left.
 use borrow.Author.Needs.{needs}
 use Rattle.lamp_fates.proofs.WriteTurns.{entry-small, looked-up}
 use Rattle.lamp_fates.proofs.fate_at.Statement.{statement}
@@ -11,17 +11,13 @@ write-along-requires : tie.Need-write-along-requires
 write-along-requires c κs = search needs
 
 entry-fate-requires : tie.Need-entry-fate-requires
-entry-fate-requires c κs = entry-small (c .before .before .before .before .before .before .walk-to-fate .ensures)
+entry-fate-requires c κs = search entry-small
 
 same-length : tie.Need-same-length
 same-length c = search needs
 
 returns : tie.Need-returns
-returns c =
-    let w = c .before .before .before in
-    let f = w .before .before .before .before in
-    let file = f .before .before .before .before .args .file .now in
-    looked-up (f .walk-to-fate .ensures) (c .entry-fate .ensures) (w .write-along .ensures file (f .walk-to-fate .ensures))
+returns c = let written = c .before .before .before in search (looked-up, written .write-along .ensures)
 
 pub fate-at-spec : {M : Type 1} → statement M
 fate-at-spec =

@@ -1,11 +1,11 @@
--- The rows of the state and of the world.
+-- The number is the sum of two rows, and it fits.
 use borrow.Author.Needs.{needs}
 use mathlib.Core.Path.{ap₂, _∙_}
+use Prim.Native.Nat.{ℕ, _+_}
 use native.Mathlib.Nat.{mul-one}
 use native.Mathlib.Omega.{arith}
-use Prim.Native.Nat.{_+_}
 use Rattle.lamp_line.proofs.Products.{product-le}
-use Rattle.run_laws.specs.Pairs.{pairNumber}
+use Rattle.run_laws.specs.inner.Pairs.{pairNumber}
 use Rattle.lamp_fates.proofs.pair_number.Statement.{statement}
 use Rattle.lamp_fates.proofs.pair_number.Tie as tie
 
@@ -27,7 +27,7 @@ add-result c =
 
 returns : tie.Need-returns
 unfolding pairNumber
-returns c = ap₂ _+_ (c .before .row .ensures) (c .row2 .ensures ∙ mul-one (c .before .before .args .world .0))
+returns c = ap₂ (λ (row place : ℕ). row + place) (c .before .row .ensures) (c .row2 .ensures ∙ mul-one (c .before .before .args .world .0))
 
 pub pair-number-spec : {M : Type 1} → statement M
 pair-number-spec = tie.close (tie.spec row-requires row-requires-2 add-result returns)

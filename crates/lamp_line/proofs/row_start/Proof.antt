@@ -1,4 +1,4 @@
--- The product of a byte and a 16-bit number fits.
+-- The product of a byte and a 16-bit number fits into a usize.
 use borrow.Author.Needs.{needs}
 use native.Mathlib.Omega.{arith}
 use Rattle.lamp_line.proofs.Products.{product-le}

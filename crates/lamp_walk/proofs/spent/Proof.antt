@@ -1,8 +1,6 @@
 -- State S is judged; any other has circled.
 use borrow.Author.Needs.{needs}
-use mathlib.Core.Path.{sym, _∙_}
-use borrow.Author.Tests.{eq-eqb, ne-eqb}
-use Rattle.job_tables.proofs.Ranges.{states-are}
+use Rattle.lamp_walk.proofs.ActionLaws.{spent-final, spent-circles}
 use Rattle.lamp_walk.proofs.spent.Statement.{statement}
 use Rattle.lamp_walk.proofs.spent.Tie as tie
 
@@ -10,14 +8,10 @@ judge-requires : tie.Need-judge-requires
 judge-requires c κs = search needs
 
 returns : tie.Need-returns
-returns c =
-    let b = c .before .before .before .before .before in
-    rw (eq-eqb _ _ (c .before .if1 .taken ∙ states-are (b .args .file .now) (b .args .job) (b .pre .0))) (c .judge .ensures)
+returns c = search spent-final
 
 returns-2 : tie.Need-returns-2
-returns-2 c =
-    let b = c .before .before .before .before in
-    rw (ne-eqb _ _ (λ e. c .if1 .left (e ∙ sym (states-are (b .args .file .now) (b .args .job) (b .pre .0)))))
+returns-2 c = search spent-circles
 
 pub spent-spec : {M : Type 1} → statement M
 spent-spec = tie.close (tie.spec judge-requires returns returns-2)

@@ -1,17 +1,17 @@
 -- The empty line is at its end, any other at its first lamp.
 use borrow.Author.Needs.{needs}
-use Rattle.line_run.proofs.RunLoop.{end-column, lamp-column}
+use Rattle.line_run.proofs.RunLoop.{column-at-end, column-at-lamp}
 use Rattle.line_run.proofs.column_of.Statement.{statement}
 use Rattle.line_run.proofs.column_of.Tie as tie
 
 returns : tie.Need-returns
-returns c = end-column (c .before .args .rest .now) (c .if1 .taken)
+returns c = search column-at-end
 
 shared-slice-read-result : tie.Need-shared-slice-read-result
 shared-slice-read-result c = search needs
 
 returns-2 : tie.Need-returns-2
-returns-2 c = lamp-column (c .before .before .args .rest .now) (c .before .if1 .left)
+returns-2 c = search column-at-lamp
 
 pub column-of-spec : {M : Type 1} → statement M
 column-of-spec = tie.close (tie.spec returns shared-slice-read-result returns-2)

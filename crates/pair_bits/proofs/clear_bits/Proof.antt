@@ -17,7 +17,7 @@ add-count : tie.Need-add-count Inv-loop μ-loop
 add-count c = omega arith
 
 loop-holds : tie.Need-loop-holds Inv-loop μ-loop
-loop-holds c = (omega arith, refl, λ i l. absurd (omega arith))
+loop-holds c = (omega arith, refl, record { zero-at = λ i l. absurd (omega arith) })
 
 mul-words : tie.Need-mul-words Inv-loop μ-loop
 mul-words c = omega arith
@@ -34,15 +34,13 @@ loop-less c = omega arith
 loop-again : tie.Need-loop-again Inv-loop μ-loop
 loop-again c =
     let o = c .before .loop in
-    (omega arith, length-set (o .words) (o .i) 0 ∙ o .inv .1, zeros-more (o .words) (o .i) (omega arith) (o .inv .2))
+    (omega arith, length-set (o .words) (o .i) 0 ∙ o .inv .1, zeros-more (o .inv .2) (omega arith))
 
 same-length : tie.Need-same-length Inv-loop μ-loop
 same-length c = c .before .loop .inv .1
 
 returns : tie.Need-returns Inv-loop μ-loop
-returns c =
-    let o = c .before .loop in
-    zeros-cleared (o .words) (c .before .before .args .n) (o .i) (c .loop-test .left) (o .inv .2)
+returns c = zeros-cleared (c .before .loop .inv .2) (c .before .before .args .n) (c .loop-test .left)
 
 pub clear-bits-spec : {M : Type 1} → statement M
 clear-bits-spec =

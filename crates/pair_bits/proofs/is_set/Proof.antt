@@ -1,6 +1,6 @@
--- Bit i of the words, read by a shift and a remainder.
+-- The shift and the remainder read bit i.
 use mathlib.Core.Path.{refl}
-use Rattle.pair_bits.specs.Bits.{bitOf}
+use Rattle.pair_bits.specs.inner.Bits.{bitOf}
 use borrow.Author.Needs.{needs}
 use Rattle.pair_bits.proofs.is_set.Statement.{statement}
 use Rattle.pair_bits.proofs.is_set.Tie as tie

@@ -23,7 +23,7 @@ same-length : tie.Need-same-length
 same-length c = search needs
 
 returns : tie.Need-returns
-returns c = only-set (c .before .args .words .now) (c .before .args .i) (c .before .pre)
+returns c = only-set (c .before .pre)
 
 pub set-bit-spec : {M : Type 1} → statement M
 set-bit-spec =

@@ -1,7 +1,7 @@
--- Each case is the definition's.
+-- Each case is computed as the definition says.
 use borrow.Author.Needs.{needs}
 use mathlib.Core.Path.{sym, ap}
-use Rattle.plan_check.specs.CheckAnswers.{answerOf}
+use Rattle.plan_check.specs.inner.FoundAnswers.{checkAnswerOf}
 use Rattle.plan_check.proofs.answer.Statement.{statement}
 use Rattle.plan_check.proofs.answer.Tie as tie
 
@@ -12,10 +12,10 @@ enum-known-found-2 : tie.Need-enum-known-found-2
 enum-known-found-2 c = search needs
 
 returns : tie.Need-returns
-returns c = ap answerOf (sym (c .before .found .given .1))
+returns c = ap checkAnswerOf (sym (c .before .found .given .1))
 
 returns-2 : tie.Need-returns-2
-returns-2 c = ap answerOf (sym (c .before .found2 .given .1))
+returns-2 c = ap checkAnswerOf (sym (c .before .found2 .given .1))
 
 pub answer-spec : {M : Type 1} → statement M
 answer-spec = tie.close (tie.spec enum-known-found enum-known-found-2 returns returns-2)

@@ -1,16 +1,23 @@
--- The memory is new: nothing is known in it yet. What the search finds is the answer.
+-- The memory is new and holds no fate yet. What the search finds is the answer.
 use borrow.Author.Needs.{needs}
 use Rattle.lamp_fates.proofs.BlankMemory.{blank-memory}
 use Rattle.plan_check.proofs.CheckRules.{found-right}
 use Rattle.plan_check.proofs.find_middle.Statement.{statement}
 use Rattle.plan_check.proofs.find_middle.Tie as tie
 
+-- From the call of the search to the start, and from the answer to where the search ended.
+abbrev start : tie.After-search-arg3 → tie.Start
+start k = k .before .before .before .before .before .before .before .before
+
+abbrev at-search : tie.After-slice-known6 → tie.After-search
+at-search k = k .before .before .before .before .before .before .before
+
 slice-aggregate-search : tie.Need-slice-aggregate-search
 slice-aggregate-search c = search needs
 
 search-requires : tie.Need-search-requires
 search-requires c κs =
-    let b = c .before .before .before .before .before .before .before .before in
+    let b = start c in
     (record { opened = b .pre .0; remembers = blank-memory _ 8192 (b .pre .2) }, b .pre .1)
 
 answer-requires : tie.Need-answer-requires
@@ -27,9 +34,9 @@ same-length-3 c = search needs
 
 returns : tie.Need-returns
 returns c =
-    let f = c .before .before .before .before .before .before .before .before in
-    let b = f .before .before .before .before .before .before .before .before .before in
-    rw (c .answer .ensures) (found-right (b .args .file .now) (b .args .job) (b .pre .0) (f .search .ensures))
+    let f = at-search (c .before) in
+    let b = start (f .before) in
+    rw (c .answer .ensures) (found-right (b .args .file .now) (b .pre .0) (f .search .ensures))
 
 pub find-middle-spec : {M : Type 1} → statement M
 find-middle-spec =

@@ -1,4 +1,4 @@
--- Place 0 has starts, which begin at 0; the others have kinds, which begin at 1.
+-- The labels of place 0 are starts, numbered from 0; those of the others are kinds, numbered from 1.
 use mathlib.Core.Path.{sym}
 use native.Mathlib.Omega.{arith}
 use Rattle.check_laws.proofs.SearchRest.{first-place-label, later-place-label}

@@ -1,4 +1,4 @@
--- The column decides first.
+-- At a lamp the answer is false; at the line's end it is the pair's bit.
 use borrow.Author.Needs.{needs}
 use borrow.Author.Tests.{eq-eqb, ne-eqb}
 use Rattle.plan_search.proofs.is_met.Statement.{statement}

@@ -1,4 +1,4 @@
--- Starts are numbered from 0, kinds from 1.
+-- The labels of place 0 are W starts, numbered from 0; those of the others are C kinds, numbered from 1.
 use native.Mathlib.Omega.{arith}
 use Prim.Native.Nat.{_≤_}
 use Rattle.job_layout.specs.JobTables.{tablesBy}

@@ -9,43 +9,51 @@ use Rattle.plan_search.proofs.Turns.{start-unmarked, start-marked, lamp
 use Rattle.plan_search.proofs.last_stretch.Statement.{statement}
 use Rattle.plan_search.proofs.last_stretch.Tie as tie
 
+-- ---- earlier points of the function
+
+-- From the tests to the start.
+abbrev start : tie.After-shared-slice-known3 → tie.Start
+start k = k .before .before .before
+
+-- From the start's mark to the test of the place.
+abbrev at-first : tie.After-is-start → tie.Then1
+at-first i = i .before .before
+
+-- ---- the answers
+
 is-start-requires : tie.Need-is-start-requires
 is-start-requires c κs = search needs
 
 returns : tie.Need-returns
 returns c =
     let i = c .before in
-    let z = i .before .before in
-    let b = z .before .before .before .before in
-    record {
-      so = start-marked (well-formed-by _ _ (b .pre .0)) _ _ _ (z .if1 .taken)
-          (sym (c .if2 .taken) ∙ i .is-start .ensures
-          ∙ ap (λ (t : Tables). t .start (worldState (b .args .label))) (sym (tables-are _ _ (b .pre .0))));
-    }
+    let z = at-first i in
+    let b = start (z .before) in
+    start-marked (z .if1 .taken) (well-formed-by _ _ (b .pre .0))
+    (sym (c .if2 .taken) ∙ i .is-start .ensures
+    ∙ ap (λ (t : Tables). t .start (worldState (b .args .label))) (sym (tables-are _ _ (b .pre .0))))
 
 returns-2 : tie.Need-returns-2
 returns-2 c =
     let i = c .before in
-    let z = i .before .before in
-    let b = z .before .before .before .before in
-    record {
-      so = start-unmarked (well-formed-by _ _ (b .pre .0)) _ _ _ (z .if1 .taken)
-          (sym (c .if2 .left) ∙ i .is-start .ensures
-          ∙ ap (λ (t : Tables). t .start (worldState (b .args .label))) (sym (tables-are _ _ (b .pre .0))));
-    }
+    let z = at-first i in
+    let b = start (z .before) in
+    start-unmarked (z .if1 .taken)
+    (sym (c .if2 .left) ∙ i .is-start .ensures
+    ∙ ap (λ (t : Tables). t .start (worldState (b .args .label))) (sym (tables-are _ _ (b .pre .0))))
 
 sub-unpack : tie.Need-sub-unpack
 sub-unpack c = search needs
 
 mul-unpack : tie.Need-mul-unpack
 mul-unpack c =
-    let b = c .before .before .before .before in
+    let b = start (c .before) in
     omega (arith, b .pre .2 .within, count-fits (b .pre .1), pairs-few (well-formed-by _ _ (b .pre .0)))
 
 shared-slice-read-unpack : tie.Need-shared-slice-read-unpack
 shared-slice-read-unpack c =
     let e = c .before in
-    let b = e .before .before .before .before in
+    let b = start (e .before) in
     omega (arith, e .if1 .left, b .pre .2 .within, count-fits (b .pre .1), b .pre .1 .list-room)
 
 unpack-requires : tie.Need-unpack-requires
@@ -55,8 +63,8 @@ returns-3 : tie.Need-returns-3
 returns-3 c =
     let u = c .before .before in
     let e = u .before .before in
-    let b = e .before .before .before .before in
-    record { so = lamp-begins (b .pre .1) (b .pre .2) (omega (arith, e .if1 .left)) (u .unpack .result) (u .unpack .ensures) }
+    let b = start (e .before) in
+    lamp-begins (b .pre .1) (b .pre .2) (omega (arith, e .if1 .left)) (u .unpack .ensures)
 
 pub last-stretch-spec : {M : Type 1} → statement M
 last-stretch-spec =

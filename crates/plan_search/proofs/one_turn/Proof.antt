@@ -1,12 +1,40 @@
--- A failure is handed on, nothing new leaves all as it is, and a new pair is put in the list.
+-- A failure is handed on; if nothing is new, all stays as it is; a new pair is put in the list.
 use borrow.Author.Needs.{needs}
 use mathlib.Core.Path.{refl}
 use native.Mathlib.Omega.{arith}
-use Rattle.job_file.proofs.WellFormed.{well-formed-by}
-use Rattle.plan_search.proofs.NewPairs.{few-pairs, list-has-room, bit-has-room, packable, turn-placed}
-use Rattle.plan_search.proofs.Turns.{tries-fails, tries-nothing, tries-new}
+use Rattle.job_layout.specs.JobTables.{tablesBy}
+use Rattle.plan_search.proofs.NewPairs.{NewPair, new-pair, few-pairs, list-has-room, bit-has-room, packable, turn-placed}
+use Rattle.plan_search.proofs.Turns.{tries-fails, tries-nothing}
 use Rattle.plan_search.proofs.one_turn.Statement.{statement}
 use Rattle.plan_search.proofs.one_turn.Tie as tie
+
+-- ---- earlier points of the function
+
+-- From where the answer of `try_line` is looked at to where it was given, and from there to the start.
+abbrev at-try : tie.After-slice-known4 → tie.After-try-line
+at-try k = k .before .before
+
+abbrev start : tie.After-try-line → tie.Start
+start v = v .before .before .before .before .before .before .before .before
+
+-- From the pair's number, and from where its bit is set, to where the pair was found.
+abbrev at-new : tie.After-pair-number → tie.After-tried2
+at-new p = p .before .before .before
+
+abbrev at-number : tie.After-slice-known5 → tie.After-pair-number
+at-number k = k .before .before .before
+
+-- The new pair.
+new :
+    (n : tie.After-tried2) →
+    let a = start (at-try (n .before .before)) .args in
+    NewPair (tablesBy (a .file .now) (a .job)) (a .list .now) (a .words .now) (a .count) (a .place) (a .label) (n .tried2 .given .0 .0)
+    (n .tried2 .given .0 .1 .0)
+new n =
+    let v = at-try (n .before .before) in
+    new-pair (start v .pre) (v .try-line .ensures) (n .tried2 .given .1)
+
+-- ---- the answers
 
 try-line-requires : tie.Need-try-line-requires
 try-line-requires c κs = search needs
@@ -24,61 +52,19 @@ pair-number-requires : tie.Need-pair-number-requires
 pair-number-requires c κs = search needs
 
 set-bit-requires : tie.Need-set-bit-requires
-set-bit-requires c κs =
-    let n = c .before .before .before in
-    let v = n .before .before .before .before in
-    let b = v .before .before .before .before .before .before .before .before in
-    omega (
-      arith,
-      c .pair-number .ensures,
-      bit-has-room (well-formed-by _ _ (b .pre .0 .opened)) (b .pre .1) (b .pre .2)
-          (tries-new (v .try-line .ensures) (n .tried2 .given .1)),
-    )
+set-bit-requires c κs = omega (arith, c .pair-number .ensures, bit-has-room (new (at-new c)))
 
 pack-requires : tie.Need-pack-requires
-pack-requires c κs =
-    let p = c .before .before .before in
-    let n = p .before .before .before in
-    let v = n .before .before .before .before in
-    let b = v .before .before .before .before .before .before .before .before in
-    packable (well-formed-by _ _ (b .pre .0 .opened)) (b .pre .1) (b .pre .2)
-    (tries-new (v .try-line .ensures) (n .tried2 .given .1))
+pack-requires c κs = packable (new (at-new (at-number c)))
 
 mul-list : tie.Need-mul-list
-mul-list c =
-    let p = c .before .before .before .before in
-    let n = p .before .before .before in
-    let v = n .before .before .before .before in
-    let b = v .before .before .before .before .before .before .before .before in
-    omega (
-      arith,
-      few-pairs (well-formed-by _ _ (b .pre .0 .opened)) (b .pre .1) (b .pre .2)
-          (tries-new (v .try-line .ensures) (n .tried2 .given .1)),
-    )
+mul-list c = omega (arith, few-pairs (new (at-new (at-number (c .before)))))
 
 slice-write-list : tie.Need-slice-write-list
-slice-write-list c =
-    let p = c .before .before .before .before in
-    let n = p .before .before .before in
-    let v = n .before .before .before .before in
-    let b = v .before .before .before .before .before .before .before .before in
-    omega (
-      arith,
-      list-has-room (well-formed-by _ _ (b .pre .0 .opened)) (b .pre .1) (b .pre .2)
-          (tries-new (v .try-line .ensures) (n .tried2 .given .1)),
-    )
+slice-write-list c = omega (arith, list-has-room (new (at-new (at-number (c .before)))))
 
 add-t24 : tie.Need-add-t24
-add-t24 c =
-    let p = c .before .before .before .before in
-    let n = p .before .before .before in
-    let v = n .before .before .before .before in
-    let b = v .before .before .before .before .before .before .before .before in
-    omega (
-      arith,
-      few-pairs (well-formed-by _ _ (b .pre .0 .opened)) (b .pre .1) (b .pre .2)
-          (tries-new (v .try-line .ensures) (n .tried2 .given .1)),
-    )
+add-t24 c = omega (arith, few-pairs (new (at-new (at-number (c .before)))))
 
 same-length : tie.Need-same-length
 same-length c = search needs
@@ -92,13 +78,8 @@ same-length-3 c = search needs
 returns : tie.Need-returns
 returns c =
     let n = c .before in
-    let v = n .before .before .before .before in (
-      record {
-        turn-is = tries-fails (v .try-line .ensures) (n .tried .given .1);
-        left = refl;
-      },
-      v .try-line .ensures .remembers,
-    )
+    let v = at-try (n .before .before) in
+    (record { turn-is = tries-fails (v .try-line .ensures) (n .tried .given .1); left = refl }, v .try-line .ensures .remembers)
 
 same-length-4 : tie.Need-same-length-4
 same-length-4 c = search needs
@@ -111,11 +92,10 @@ same-length-6 c = search needs
 
 returns-2 : tie.Need-returns-2
 returns-2 c =
-    let v = c .before .before .before .before in
-    let b = v .before .before .before .before .before .before .before .before in (
+    let v = at-try (c .before .before) in (
       record {
         turn-is = tries-nothing (v .try-line .ensures) (c .enum-told .given .1);
-        left = (omega arith, b .pre .1);
+        left = (omega arith, start v .pre .1);
       },
       v .try-line .ensures .remembers,
     )
@@ -131,14 +111,10 @@ same-length-9 c = search needs
 
 returns-3 : tie.Need-returns-3
 returns-3 c =
-    let s = c .before .before .before in
-    let p = s .before in
-    let n = p .before .before .before in
-    let v = n .before .before .before .before in
-    let b = v .before .before .before .before .before .before .before .before in (
-      turn-placed (well-formed-by _ _ (b .pre .0 .opened)) (b .pre .1) (b .pre .2)
-          (tries-new (v .try-line .ensures) (n .tried2 .given .1)) (c .pack .ensures) (p .pair-number .ensures) (s .set-bit .ensures),
-      v .try-line .ensures .remembers,
+    let p = at-number (c .before) in
+    let n = at-new p in (
+      turn-placed (new n) (c .pack .ensures) (p .pair-number .ensures) (c .before .before .before .set-bit .ensures),
+      at-try (n .before .before) .try-line .ensures .remembers,
     )
 
 pub one-turn-spec : {M : Type 1} → statement M

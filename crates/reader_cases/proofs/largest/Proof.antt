@@ -1,7 +1,7 @@
 -- The copy stays within both arrays; the measure is the number of bytes left.
 use borrow.Author.Needs.{needs}
 use native.Mathlib.Omega.{arith}
-use mathlib.Core.Path.{_≡_, _∙_}
+use mathlib.Core.Path.{_≡_}
 use Prim.Native.Nat.{_≤_, _-_}
 use lib.ListN.{length, length-set, length-replicate}
 use Rattle.reader_cases.proofs.largest.Statement.{statement}

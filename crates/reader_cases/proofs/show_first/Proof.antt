@@ -1,4 +1,4 @@
--- The first bytes are as many as asked for.
+-- As many bytes are handed on as are asked for.
 use borrow.Author.Needs.{needs}
 use mathlib.Core.Path.{sym}
 use lib.Seq.{length-take-le}

@@ -1,4 +1,4 @@
--- The numbers so far are written; the measure is the number of bytes left.
+-- The invariant is that the numbers so far are written; the measure is the number of bytes left.
 use borrow.Author.Needs.{needs}
 use mathlib.Core.Path.{_≡_, refl, subst, _∙_}
 use mathlib.Core.List.{[], _∷_}
@@ -6,7 +6,8 @@ use Prim.Native.Nat.{_+_, _*_, _-_, _≤_, _<_}
 use native.Mathlib.Omega.{arith}
 use lib.ListN.{length, take}
 use lib.Seq.{take-all}
-use Rattle.answer_line.specs.AnswerLine.{numbers, Wrote}
+use Rattle.answer_line.specs.AnswerLine.{numbers}
+use Rattle.answer_line.specs.inner.Writing.{Wrote}
 use Rattle.answer_line.proofs.Writing.{next-number, wrote-then}
 use Rattle.answer_line.proofs.text.put_bytes.Statement.{statement}
 use Rattle.answer_line.proofs.text.put_bytes.Tie as tie

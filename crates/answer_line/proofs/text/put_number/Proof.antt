@@ -1,4 +1,4 @@
--- The digits stand behind the blank.
+-- The digits come after the blank.
 use borrow.Author.Needs.{needs}
 use native.Mathlib.Omega.{arith}
 use Rattle.answer_line.proofs.Writing.{one-number, length-decimal, wrote-then}

@@ -1,4 +1,4 @@
--- The bytes so far are written; the measure is the number of bytes left.
+-- The invariant is that the bytes so far are written; the measure is the number of bytes left.
 use mathlib.Core.Path.{_≡_, refl, ap, _∙_}
 use Prim.Native.Nat.{_+_, _-_, _≤_, _<_}
 use native.Mathlib.Omega.{arith}

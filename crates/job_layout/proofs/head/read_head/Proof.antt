@@ -1,4 +1,4 @@
--- The bytes and the pairs are those of the head.
+-- The numbers and the parts are those of the head.
 use borrow.Author.Needs.{needs}
 use Rattle.job_layout.proofs.head.read_head.Statement.{statement}
 use Rattle.job_layout.proofs.head.read_head.Tie as tie

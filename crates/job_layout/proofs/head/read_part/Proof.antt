@@ -1,4 +1,4 @@
--- The two words are those of the pair.
+-- The two words are the part's offset and length.
 use borrow.Author.Needs.{needs}
 use Rattle.job_layout.proofs.head.read_part.Statement.{statement}
 use Rattle.job_layout.proofs.head.read_part.Tie as tie

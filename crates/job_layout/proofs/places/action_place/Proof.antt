@@ -1,4 +1,4 @@
--- A 16-bit offset and the row of a byte's number of rows fit together.
+-- The row begins at a byte times at most 256, so its sum with a 16-bit offset fits.
 use borrow.Author.Needs.{needs}
 use native.Mathlib.Omega.{arith}
 use Prim.Native.Nat.{_+_, _*_}

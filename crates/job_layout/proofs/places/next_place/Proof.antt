@@ -3,7 +3,6 @@ use borrow.Author.Needs.{needs}
 use native.Mathlib.Omega.{arith}
 use native.Mathlib.Nat.{mul-one}
 use Prim.Native.Nat.{_+_, _*_, _≤_}
-use mathlib.Core.Path.{_≡_}
 use Rattle.lamp_line.proofs.Products.{product-le}
 use Rattle.job_layout.proofs.Bounds.{cell-fits}
 use Rattle.job_layout.proofs.places.next_place.Statement.{statement}
@@ -34,15 +33,21 @@ column-count-requires c κs = search needs
 cast-result-2 : tie.Need-cast-result-2
 cast-result-2 c = search needs
 
--- what the four needs below have in common
+-- The function's start and the computed row, as seen where the number of columns is known.
+abbrev start : tie.After-column-count → tie.Start
+start c = c .before .before .before .before
+
+abbrev row : tie.After-column-count → tie.After-row
+row c = c .before .before
+
+-- What the four needs below have in common: the place of the cell among the cells is small.
 bound :
     (c : tie.After-column-count) →
-    (c .before .before .before .before .args .action * c .before .before .before .before .args .job .worlds + c .before .before .row .result)
-    * c .column-count .result ≤ 65280 * 65535
+    (start c .args .action * start c .args .job .worlds + row c .row .result) * c .column-count .result ≤ 65280 * 65535
 bound c =
-    let a = c .before .before .before .before .args in
-    cell-fits (a .action) (a .job .worlds) (c .before .before .row .result) (c .column-count .result)
-    (omega arith) (omega arith) (omega (arith, c .before .before .row .ensures)) (omega arith)
+    let a = start c .args in
+    cell-fits (a .action) (a .job .worlds) (row c .row .result) (c .column-count .result)
+    (omega arith) (omega arith) (omega (arith, row c .row .ensures)) (omega arith)
 
 mul-result : tie.Need-mul-result
 mul-result c = omega (arith, bound c)
@@ -57,7 +62,7 @@ add-result-2 : tie.Need-add-result-2
 add-result-2 c = omega (arith, bound c)
 
 returns : tie.Need-returns
-returns c = rw (c .before .before .row .ensures, mul-one, c .column-count .ensures)
+returns c = rw (row c .row .ensures, mul-one, c .column-count .ensures)
 
 pub next-place-spec : {M : Type 1} → statement M
 next-place-spec =

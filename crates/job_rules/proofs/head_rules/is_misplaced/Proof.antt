@@ -1,4 +1,4 @@
--- The part begins too early, or ends behind the file.
+-- The part begins too early, or ends after the file.
 use borrow.Author.Needs.{needs}
 use Rattle.job_rules.proofs.head_rules.is_misplaced.Statement.{statement}
 use Rattle.job_rules.proofs.head_rules.is_misplaced.Tie as tie

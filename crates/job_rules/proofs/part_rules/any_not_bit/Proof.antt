@@ -2,8 +2,8 @@
 use borrow.Author.Needs.{needs}
 use borrow.Author.Tests.{lt-ltb, le-ltb}
 use native.Mathlib.Omega.{arith}
-use Prim.Native.Nat.{_+_, _-_}
-use Rattle.lamp_line.proofs.Scan.{NoneYet, none-yet-start, none-yet-more, found-below, none-below}
+use Prim.Native.Nat.{_-_}
+use Rattle.lamp_line.proofs.Scan.{NoneYet, none-yet-start, none-yet-more, scan-finds, scan-ends}
 use Rattle.job_rules.specs.Rules.{notBit}
 use Rattle.job_rules.proofs.part_rules.any_not_bit.Statement.{statement}
 use Rattle.job_rules.proofs.part_rules.any_not_bit.Tie as tie
@@ -15,7 +15,7 @@ abbrev μ-loop : tie.MeasureT-loop
 μ-loop file from count i₀ i = count - i
 
 loop-holds : tie.Need-loop-holds Inv-loop μ-loop
-loop-holds c = none-yet-start _ _
+loop-holds c = none-yet-start
 
 add-if1 : tie.Need-add-if1 Inv-loop μ-loop
 add-if1 c = search needs
@@ -24,9 +24,7 @@ shared-slice-read-if1 : tie.Need-shared-slice-read-if1 Inv-loop μ-loop
 shared-slice-read-if1 c = search needs
 
 returns : tie.Need-returns Inv-loop μ-loop
-returns c =
-    let a = c .before .before .before .before .args in
-    found-below (notBit (a .file .now) (a .from)) _ _ (c .before .before .loop-test .taken) (lt-ltb 1 _ (c .if1 .taken))
+returns c = scan-finds (search) (omega arith) (lt-ltb _ _ (c .if1 .taken))
 
 add-i : tie.Need-add-i Inv-loop μ-loop
 add-i c = search needs
@@ -35,10 +33,10 @@ loop-less : tie.Need-loop-less Inv-loop μ-loop
 loop-less c = search needs
 
 loop-again : tie.Need-loop-again Inv-loop μ-loop
-loop-again c = none-yet-more _ _ _ (c .before .before .loop-test .taken) (c .before .before .before .loop .inv) (le-ltb 1 _ (c .if1 .left))
+loop-again c = none-yet-more (search) (omega arith) (le-ltb _ _ (c .if1 .left))
 
 returns-2 : tie.Need-returns-2 Inv-loop μ-loop
-returns-2 c = none-below _ _ _ (c .loop-test .left) (c .before .loop .inv)
+returns-2 c = search scan-ends
 
 pub any-not-bit-spec : {M : Type 1} → statement M
 any-not-bit-spec =

@@ -1,8 +1,8 @@
 -- No target that was passed is out of range; the measure is the number of targets left.
 use borrow.Author.Needs.{needs}
 use native.Mathlib.Omega.{arith}
-use Prim.Native.Nat.{_+_, _-_}
-use Rattle.lamp_line.proofs.Scan.{NoneYet, none-yet-start, none-yet-more, found-below, none-below}
+use Prim.Native.Nat.{_-_}
+use Rattle.lamp_line.proofs.Scan.{NoneYet, none-yet-start, none-yet-more, scan-finds, scan-ends}
 use Rattle.job_rules.specs.Rules.{targetWrongAt}
 use Rattle.job_rules.proofs.part_rules.any_target_wrong.Statement.{statement}
 use Rattle.job_rules.proofs.part_rules.any_target_wrong.Tie as tie
@@ -14,7 +14,7 @@ abbrev μ-loop : tie.MeasureT-loop
 μ-loop file from count states i₀ i = count - i
 
 loop-holds : tie.Need-loop-holds Inv-loop μ-loop
-loop-holds c = none-yet-start _ _
+loop-holds c = none-yet-start
 
 add-target : tie.Need-add-target Inv-loop μ-loop
 add-target c = search needs
@@ -23,9 +23,7 @@ shared-slice-read-target : tie.Need-shared-slice-read-target Inv-loop μ-loop
 shared-slice-read-target c = search needs
 
 returns : tie.Need-returns Inv-loop μ-loop
-returns c =
-    let a = c .before .before .before .before .args in
-    found-below (targetWrongAt (a .file .now) (a .from) (a .states)) _ _ (c .before .before .loop-test .taken) (c .if1 .taken)
+returns c = scan-finds (search) (omega arith) (c .if1 .taken)
 
 add-i : tie.Need-add-i Inv-loop μ-loop
 add-i c = search needs
@@ -34,10 +32,10 @@ loop-less : tie.Need-loop-less Inv-loop μ-loop
 loop-less c = search needs
 
 loop-again : tie.Need-loop-again Inv-loop μ-loop
-loop-again c = none-yet-more _ _ _ (c .before .before .loop-test .taken) (c .before .before .before .loop .inv) (c .if1 .left)
+loop-again c = none-yet-more (search) (omega arith) (c .if1 .left)
 
 returns-2 : tie.Need-returns-2 Inv-loop μ-loop
-returns-2 c = none-below _ _ _ (c .loop-test .left) (c .before .loop .inv)
+returns-2 c = search scan-ends
 
 pub any-target-wrong-spec : {M : Type 1} → statement M
 any-target-wrong-spec =

@@ -1,9 +1,9 @@
 -- No action that was passed moves on and is legal in column 0; the measure is the number of actions left.
 use borrow.Author.Needs.{needs}
 use native.Mathlib.Omega.{arith}
-use Prim.Native.Nat.{_+_, _-_}
 use mathlib.Core.Path.{sym, _∙_}
-use Rattle.lamp_line.proofs.Scan.{NoneYet, none-yet-start, none-yet-more, found-below, none-below}
+use Prim.Native.Nat.{_-_}
+use Rattle.lamp_line.proofs.Scan.{NoneYet, none-yet-start, none-yet-more, scan-finds, scan-ends}
 use Rattle.job_rules.specs.Rules.{movesOnAtEnd}
 use Rattle.job_rules.proofs.part_rules.end_wrong.Statement.{statement}
 use Rattle.job_rules.proofs.part_rules.end_wrong.Tie as tie
@@ -15,16 +15,13 @@ abbrev μ-loop : tie.MeasureT-loop
 μ-loop file job actions a₀ a = actions - a
 
 loop-holds : tie.Need-loop-holds Inv-loop μ-loop
-loop-holds c = none-yet-start _ _
+loop-holds c = none-yet-start
 
 moves-on-at-end-requires : tie.Need-moves-on-at-end-requires Inv-loop μ-loop
 moves-on-at-end-requires c κs = search needs
 
 returns : tie.Need-returns Inv-loop μ-loop
-returns c =
-    let a = c .before .before .before .before .before .args in
-    found-below (movesOnAtEnd (a .file .now) (a .job)) _ _ (c .before .before .loop-test .taken)
-    (sym (c .before .moves-on-at-end .ensures) ∙ c .if1 .taken)
+returns c = scan-finds (search) (omega arith) (sym (c .before .moves-on-at-end .ensures) ∙ c .if1 .taken)
 
 add-a : tie.Need-add-a Inv-loop μ-loop
 add-a c = search needs
@@ -33,12 +30,10 @@ loop-less : tie.Need-loop-less Inv-loop μ-loop
 loop-less c = search needs
 
 loop-again : tie.Need-loop-again Inv-loop μ-loop
-loop-again c =
-    none-yet-more _ _ _ (c .before .before .loop-test .taken) (c .before .before .before .loop .inv)
-    (sym (c .before .moves-on-at-end .ensures) ∙ c .if1 .left)
+loop-again c = none-yet-more (search) (omega arith) (cc)
 
 returns-2 : tie.Need-returns-2 Inv-loop μ-loop
-returns-2 c = none-below _ _ _ (c .loop-test .left) (c .before .loop .inv)
+returns-2 c = search scan-ends
 
 pub end-wrong-spec : {M : Type 1} → statement M
 end-wrong-spec =

@@ -1,4 +1,4 @@
--- A next world state that is too large is wrong; else a result below R is right, and of the others only 255 with next 0.
+-- A next world state that is too large is wrong. Otherwise a result below R is right, and of the others only 255 with next 0.
 use mathlib.Core.Path.{_≡_, refl}
 use mathlib.Core.Bool.{Bool, true, false, _&&_, _||_, not}
 use native.Mathlib.Omega.{arith}

@@ -1,9 +1,9 @@
 -- No program state that was passed has a target out of range; the measure is the number of states left.
 use borrow.Author.Needs.{needs}
-use native.Mathlib.Omega.{arith}
-use Prim.Native.Nat.{_+_, _-_}
 use mathlib.Core.Path.{sym, _∙_}
-use Rattle.lamp_line.proofs.Scan.{NoneYet, none-yet-start, none-yet-more, found-below, none-below}
+use Prim.Native.Nat.{_-_}
+use native.Mathlib.Omega.{arith}
+use Rattle.lamp_line.proofs.Scan.{NoneYet, none-yet-start, none-yet-more, scan-finds, scan-ends}
 use Rattle.job_rules.specs.Rules.{rowWrong}
 use Rattle.job_rules.proofs.part_rules.target_wrong.Statement.{statement}
 use Rattle.job_rules.proofs.part_rules.target_wrong.Tie as tie
@@ -15,16 +15,13 @@ abbrev μ-loop : tie.MeasureT-loop
 μ-loop file job states q₀ q = states - q
 
 loop-holds : tie.Need-loop-holds Inv-loop μ-loop
-loop-holds c = none-yet-start _ _
+loop-holds c = none-yet-start
 
 row-wrong-requires : tie.Need-row-wrong-requires Inv-loop μ-loop
 row-wrong-requires c κs = search needs
 
 returns : tie.Need-returns Inv-loop μ-loop
-returns c =
-    let a = c .before .before .before .before .before .args in
-    found-below (rowWrong (a .file .now) (a .job)) _ _ (c .before .before .loop-test .taken)
-    (sym (c .before .row-wrong .ensures) ∙ c .if1 .taken)
+returns c = scan-finds (search) (omega arith) (sym (c .before .row-wrong .ensures) ∙ c .if1 .taken)
 
 add-q : tie.Need-add-q Inv-loop μ-loop
 add-q c = search needs
@@ -33,12 +30,10 @@ loop-less : tie.Need-loop-less Inv-loop μ-loop
 loop-less c = search needs
 
 loop-again : tie.Need-loop-again Inv-loop μ-loop
-loop-again c =
-    none-yet-more _ _ _ (c .before .before .loop-test .taken) (c .before .before .before .loop .inv)
-    (sym (c .before .row-wrong .ensures) ∙ c .if1 .left)
+loop-again c = none-yet-more (search) (omega arith) (cc)
 
 returns-2 : tie.Need-returns-2 Inv-loop μ-loop
-returns-2 c = none-below _ _ _ (c .loop-test .left) (c .before .loop .inv)
+returns-2 c = search scan-ends
 
 pub target-wrong-spec : {M : Type 1} → statement M
 target-wrong-spec =

@@ -1,4 +1,4 @@
--- Each case is the definition's.
+-- Each case is computed as the definition says.
 use borrow.Author.Needs.{needs}
 use mathlib.Core.Path.{sym, ap, _∙_}
 use Rattle.nessflurry_c.specs.AnswerWords.{actionWord}
@@ -8,14 +8,14 @@ use Rattle.nessflurry_c.proofs.words.action_word.Tie as tie
 enum-known-answer : tie.Need-enum-known-answer
 enum-known-answer c = search needs
 
-word-of-requires : tie.Need-word-of-requires
-word-of-requires c κs = search needs
+answer-word-requires : tie.Need-answer-word-requires
+answer-word-requires c κs = search needs
 
 enum-told : tie.Need-enum-told
 enum-told c = search needs
 
-word-of-requires-2 : tie.Need-word-of-requires-2
-word-of-requires-2 c κs = search needs
+answer-word-requires-2 : tie.Need-answer-word-requires-2
+answer-word-requires-2 c κs = search needs
 
 enum-known-answer-2 : tie.Need-enum-known-answer-2
 enum-known-answer-2 c = search needs
@@ -24,10 +24,10 @@ refused-word-requires : tie.Need-refused-word-requires
 refused-word-requires c κs = search needs
 
 returns : tie.Need-returns
-returns c = c .word-of .ensures ∙ ap actionWord (sym (c .before .before .answer .given .1))
+returns c = c .answer-word .ensures ∙ ap actionWord (sym (c .before .before .answer .given .1))
 
 returns-2 : tie.Need-returns-2
-returns-2 c = c .word-of2 .ensures ∙ ap actionWord (sym (c .before .enum-told .given .1))
+returns-2 c = c .answer-word2 .ensures ∙ ap actionWord (sym (c .before .enum-told .given .1))
 
 returns-3 : tie.Need-returns-3
 returns-3 c = c .refused-word .ensures ∙ ap actionWord (sym (c .before .before .answer2 .given .1))
@@ -37,9 +37,9 @@ action-word-spec =
     tie.close
     (tie.spec
     enum-known-answer
-    word-of-requires
+    answer-word-requires
     enum-told
-    word-of-requires-2
+    answer-word-requires-2
     enum-known-answer-2
     refused-word-requires
     returns

@@ -1,4 +1,4 @@
--- Each case is the definition's.
+-- Each case is computed as the definition says.
 use borrow.Author.Needs.{needs}
 use mathlib.Core.Path.{sym, ap, _∙_}
 use Rattle.nessflurry_c.specs.AnswerWords.{beginWord}

@@ -1,4 +1,4 @@
--- Each case is the definition's.
+-- Each case is computed as the definition says.
 use borrow.Author.Needs.{needs}
 use mathlib.Core.Path.{sym, ap, _∙_}
 use Rattle.nessflurry_c.specs.AnswerWords.{checkWord}
@@ -8,8 +8,8 @@ use Rattle.nessflurry_c.proofs.words.check_word.Tie as tie
 enum-known-answer : tie.Need-enum-known-answer
 enum-known-answer c = search needs
 
-word-of-requires : tie.Need-word-of-requires
-word-of-requires c κs = search needs
+answer-word-requires : tie.Need-answer-word-requires
+answer-word-requires c κs = search needs
 
 enum-known-answer-2 : tie.Need-enum-known-answer-2
 enum-known-answer-2 c = search needs
@@ -17,11 +17,11 @@ enum-known-answer-2 c = search needs
 failure-number-requires : tie.Need-failure-number-requires
 failure-number-requires c κs = search needs
 
-cast-word-of : tie.Need-cast-word-of
-cast-word-of c = search needs
+cast-answer-word : tie.Need-cast-answer-word
+cast-answer-word c = search needs
 
-word-of-requires-2 : tie.Need-word-of-requires-2
-word-of-requires-2 c κs = search needs
+answer-word-requires-2 : tie.Need-answer-word-requires-2
+answer-word-requires-2 c κs = search needs
 
 enum-known-answer-3 : tie.Need-enum-known-answer-3
 enum-known-answer-3 c = search needs
@@ -30,11 +30,11 @@ refused-word-requires : tie.Need-refused-word-requires
 refused-word-requires c κs = search needs
 
 returns : tie.Need-returns
-returns c = c .word-of .ensures ∙ ap checkWord (sym (c .before .before .answer .given .1))
+returns c = c .answer-word .ensures ∙ ap checkWord (sym (c .before .before .answer .given .1))
 
 returns-2 : tie.Need-returns-2
 returns-2 c =
-    rw (c .word-of2 .ensures, c .before .before .failure-number .ensures)
+    rw (c .answer-word2 .ensures, c .before .before .failure-number .ensures)
     (ap checkWord (sym (c .before .before .before .before .answer2 .given .1)))
 
 returns-3 : tie.Need-returns-3
@@ -45,11 +45,11 @@ check-word-spec =
     tie.close
     (tie.spec
     enum-known-answer
-    word-of-requires
+    answer-word-requires
     enum-known-answer-2
     failure-number-requires
-    cast-word-of
-    word-of-requires-2
+    cast-answer-word
+    answer-word-requires-2
     enum-known-answer-3
     refused-word-requires
     returns

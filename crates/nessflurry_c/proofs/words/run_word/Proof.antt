@@ -1,4 +1,4 @@
--- Each case is the definition's.
+-- Each case is computed as the definition says.
 use borrow.Author.Needs.{needs}
 use mathlib.Core.Path.{sym, ap, _∙_}
 use Rattle.nessflurry_c.specs.AnswerWords.{runWord}
@@ -11,14 +11,14 @@ enum-known-answer c = search needs
 ending-code-requires : tie.Need-ending-code-requires
 ending-code-requires c κs = search needs
 
-word-of-requires : tie.Need-word-of-requires
-word-of-requires c κs = search needs
+answer-word-requires : tie.Need-answer-word-requires
+answer-word-requires c κs = search needs
 
 enum-known-answer-2 : tie.Need-enum-known-answer-2
 enum-known-answer-2 c = search needs
 
-word-of-requires-2 : tie.Need-word-of-requires-2
-word-of-requires-2 c κs = search needs
+answer-word-requires-2 : tie.Need-answer-word-requires-2
+answer-word-requires-2 c κs = search needs
 
 enum-known-answer-3 : tie.Need-enum-known-answer-3
 enum-known-answer-3 c = search needs
@@ -28,10 +28,10 @@ refused-word-requires c κs = search needs
 
 returns : tie.Need-returns
 returns c =
-    rw (c .word-of .ensures, c .before .ending-code .ensures) (ap runWord (sym (c .before .before .before .answer .given .1)))
+    rw (c .answer-word .ensures, c .before .ending-code .ensures) (ap runWord (sym (c .before .before .before .answer .given .1)))
 
 returns-2 : tie.Need-returns-2
-returns-2 c = c .word-of2 .ensures ∙ ap runWord (sym (c .before .before .answer2 .given .1))
+returns-2 c = c .answer-word2 .ensures ∙ ap runWord (sym (c .before .before .answer2 .given .1))
 
 returns-3 : tie.Need-returns-3
 returns-3 c = c .refused-word .ensures ∙ ap runWord (sym (c .before .before .answer3 .given .1))
@@ -42,9 +42,9 @@ run-word-spec =
     (tie.spec
     enum-known-answer
     ending-code-requires
-    word-of-requires
+    answer-word-requires
     enum-known-answer-2
-    word-of-requires-2
+    answer-word-requires-2
     enum-known-answer-3
     refused-word-requires
     returns

@@ -12,41 +12,31 @@ abbrev μ-loop : tie.MeasureT-loop
 μ-loop list from place₀ lamps₀ place lamps = place
 
 loop-holds : tie.Need-loop-holds Inv-loop μ-loop
-loop-holds c = counting-starts (c .before .pre .0) (c .before .pre .1)
+loop-holds c = let b = c .before in counting-starts (b .pre .0) (b .pre .1) (b .pre .2)
 
 sub-unpack : tie.Need-sub-unpack Inv-loop μ-loop
 sub-unpack c = omega arith
 
 mul-unpack : tie.Need-mul-unpack Inv-loop μ-loop
-mul-unpack c = let l = c .before in omega (arith, l .loop .inv .within, l .before .before .pre .2)
+mul-unpack c = omega arith
 
 shared-slice-read-unpack : tie.Need-shared-slice-read-unpack Inv-loop μ-loop
-shared-slice-read-unpack c = let t = c .before in omega (arith, t .before .loop .inv .within, t .loop-test .taken)
+shared-slice-read-unpack c = omega arith
 
 unpack-requires : tie.Need-unpack-requires Inv-loop μ-loop
 unpack-requires c κs = search needs
 
 add-lamps : tie.Need-add-lamps Inv-loop μ-loop
-add-lamps c =
-    let l = c .before .before .before in
-    omega (arith, l .loop .inv .few, l .before .before .pre .1, l .before .before .pre .2)
+add-lamps c = omega arith
 
 loop-less : tie.Need-loop-less Inv-loop μ-loop
-loop-less c =
-    let t = c .before .before in
-    let l = t .before in
-    counts-on (l .before .before .pre .0) (l .loop .inv) (t .loop-test .taken) (c .unpack .result) (c .unpack .ensures) .0
+loop-less c = let t = c .before .before in counts-on (t .before .loop .inv) (t .loop-test .taken) (c .unpack .ensures) .0
 
 loop-again : tie.Need-loop-again Inv-loop μ-loop
-loop-again c =
-    let t = c .before .before in
-    let l = t .before in
-    counts-on (l .before .before .pre .0) (l .loop .inv) (t .loop-test .taken) (c .unpack .result) (c .unpack .ensures) .1
+loop-again c = let t = c .before .before in counts-on (t .before .loop .inv) (t .loop-test .taken) (c .unpack .ensures) .1
 
 returns : tie.Need-returns Inv-loop μ-loop
-returns c =
-    let l = c .before in
-    counted (l .before .before .pre .0) (l .loop .inv) (λ h. omega arith)
+returns c = counted (c .before .loop .inv) (omega arith)
 
 pub lamps-at-spec : {M : Type 1} → statement M
 lamps-at-spec =

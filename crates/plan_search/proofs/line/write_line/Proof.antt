@@ -13,49 +13,37 @@ abbrev μ-loop : tie.MeasureT-loop
 μ-loop list line₀ from label lamps place₀ lamp₀ at₀ line place lamp at = place
 
 loop-holds : tie.Need-loop-holds Inv-loop μ-loop
-loop-holds c = let b = c .before .before in writing-starts (b .pre .1) (b .pre .3) (b .pre .4)
+loop-holds c = let b = c .before .before in writing-starts (b .pre .0) (b .pre .1) (b .pre .2) (b .pre .3) (b .pre .4)
 
 sub-at : tie.Need-sub-at Inv-loop μ-loop
-sub-at c =
-    let l = c .before in
-    omega (arith, some-left (l .before .before .before .pre .0) (l .loop .inv) (c .loop-test .taken))
+sub-at c = omega (arith, some-left (c .before .loop .inv) (c .loop-test .taken))
 
 slice-write-line : tie.Need-slice-write-line Inv-loop μ-loop
-slice-write-line c =
-    let l = c .before in
-    omega (arith, l .loop .inv .room, some-left (l .before .before .before .pre .0) (l .loop .inv) (c .loop-test .taken))
+slice-write-line c = omega (arith, some-left (c .before .loop .inv) (c .loop-test .taken))
 
 sub-unpack : tie.Need-sub-unpack Inv-loop μ-loop
 sub-unpack c = omega arith
 
 mul-unpack : tie.Need-mul-unpack Inv-loop μ-loop
-mul-unpack c = let l = c .before in omega (arith, l .loop .inv .within, l .before .before .before .pre .2)
+mul-unpack c = omega arith
 
 shared-slice-read-unpack : tie.Need-shared-slice-read-unpack Inv-loop μ-loop
-shared-slice-read-unpack c = let t = c .before in omega (arith, t .before .loop .inv .within, t .loop-test .taken)
+shared-slice-read-unpack c = omega arith
 
 unpack-requires : tie.Need-unpack-requires Inv-loop μ-loop
 unpack-requires c κs = search needs
 
 loop-less : tie.Need-loop-less Inv-loop μ-loop
-loop-less c =
-    let t = c .before .before in
-    let l = t .before in
-    writes-on (l .before .before .before .pre .0) (l .loop .inv) (t .loop-test .taken) (c .unpack .result) (c .unpack .ensures) .0
+loop-less c = let t = c .before .before in writes-on (t .before .loop .inv) (t .loop-test .taken) (c .unpack .ensures) .0
 
 loop-again : tie.Need-loop-again Inv-loop μ-loop
-loop-again c =
-    let t = c .before .before in
-    let l = t .before in
-    writes-on (l .before .before .before .pre .0) (l .loop .inv) (t .loop-test .taken) (c .unpack .result) (c .unpack .ensures) .1
+loop-again c = let t = c .before .before in writes-on (t .before .loop .inv) (t .loop-test .taken) (c .unpack .ensures) .1
 
 same-length : tie.Need-same-length Inv-loop μ-loop
 same-length c = c .before .loop .inv .same-length
 
 returns : tie.Need-returns Inv-loop μ-loop
-returns c =
-    let l = c .before in
-    all-written (l .before .before .before .pre .0) (l .loop .inv) (λ h. omega arith) _ refl
+returns c = all-written (c .before .loop .inv) (omega arith) refl
 
 pub write-line-spec : {M : Type 1} → statement M
 write-line-spec =

@@ -1,6 +1,6 @@
--- The four numbers side by side; their word is below 2 ^ 32.
+-- The four numbers lie side by side in the word, and together they are below 2 ^ 32.
 use native.Mathlib.Omega.{arith}
-use Rattle.plan_search.specs.Placing.{packed}
+use Rattle.plan_search.specs.inner.Placing.{packed}
 use borrow.Author.Needs.{needs}
 use Rattle.plan_search.proofs.list.pack.Statement.{statement}
 use Rattle.plan_search.proofs.list.pack.Tie as tie

@@ -1,6 +1,6 @@
--- Each part is the definition's.
+-- Each field is computed as the definition says.
 use mathlib.Core.Path.{refl}
-use Rattle.plan_search.specs.Placing.{unpacked}
+use Rattle.plan_search.specs.inner.Placing.{unpacked}
 use borrow.Author.Needs.{needs}
 use Rattle.plan_search.proofs.list.unpack.Statement.{statement}
 use Rattle.plan_search.proofs.list.unpack.Tie as tie

@@ -1,0 +1,3 @@
+pub mod BenchCabinet
+pub mod BenchLine
+pub mod BenchReading

@@ -1,0 +1,2 @@
+pub mod BenchJobs
+pub mod BenchPromises

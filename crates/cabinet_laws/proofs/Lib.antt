@@ -1,4 +1,0 @@
-pub mod Following
-pub mod ReadsPlan
-pub mod Replies
-pub mod Serving

@@ -1,0 +1,23 @@
+-- As many kinds are handed on as are asked for.
+use borrow.Author.Needs.{needs}
+use mathlib.Core.Path.{sym}
+use lib.Seq.{length-take-le}
+use Rattle.case_printing.proofs.print_front.Statement.{statement}
+use Rattle.case_printing.proofs.print_front.Tie as tie
+
+slice-aggregate-print-kinds : tie.Need-slice-aggregate-print-kinds
+slice-aggregate-print-kinds c =
+    let a = c .before .before .before .args in
+    sym (length-take-le (a .lamps) (a .buffer .now) (c .before .if1 .taken))
+
+print-kinds-requires : tie.Need-print-kinds-requires
+print-kinds-requires c κs = search needs
+
+returns : tie.Need-returns
+returns c = search needs
+
+returns-2 : tie.Need-returns-2
+returns-2 c = search needs
+
+pub print-front-spec : {M : Type 1} → statement M
+print-front-spec = tie.close (tie.spec slice-aggregate-print-kinds print-kinds-requires returns returns-2)

@@ -1,0 +1,110 @@
+// The plain search: it runs every line up to a length from every start, one after the other, and answers the first that fails.
+// Shorter lines come first, then lower starts, then lower kinds.
+use crate::shape::Shape;
+use crate::shape::shape_of;
+use lamp_line::Ending;
+use lamp_line::WorldState;
+use lamp_line::failure_number;
+use line_run::RunAnswer;
+
+// The first line that fails: the number of its ending, its start and its number of lamps.
+pub enum FirstFailing {
+    Line(u32, u8, usize),
+    Nothing,
+}
+
+// The number of a failure, or 0 for Goal.
+fn ending_number(ending: Ending) -> u32 {
+    match ending {
+        Ending::Goal => 0,
+        Ending::Failure(kind) => failure_number(kind) as u32,
+    }
+}
+
+// The number of a run's ending. A refusal counts as its number plus 100, which keeps it apart from the failures. Only the refusal of a
+// start that is not marked counts as no failure.
+fn run_number(answer: RunAnswer) -> u32 {
+    match answer {
+        RunAnswer::Ended(ending, steps) => ending_number(ending),
+        RunAnswer::Stopped(limit) => 99,
+        RunAnswer::Refused(number) => {
+            if number == 14 {
+                return 0;
+            }
+            100 + number as u32
+        }
+    }
+}
+
+// The number of the ending of a line's run.
+fn run_end(file: &[u8], start: u8, line: &[u8]) -> u32 {
+    run_number(line_run::run_line(file, WorldState(start), line, 4294967295))
+}
+
+// Turns a line into the next one of the same length, as a counter counts; the last line becomes the first again.
+fn next_line(line: &mut [u8], kinds: u8) {
+    let mut i = line.len();
+    while 0 < i {
+        i -= 1;
+        let kind = line[i];
+        if kind < kinds {
+            line[i] = kind + 1;
+            return;
+        }
+        line[i] = 1;
+    }
+}
+
+// How many lines have this length. Taking the remainder makes no difference for the lengths in this program.
+fn lines_of(kinds: u8, lamps: usize) -> u32 {
+    let mut lines: u32 = 1;
+    let mut i = 0;
+    while i < lamps {
+        lines = (lines as u64 * kinds as u64 % 4294967296) as u32;
+        i += 1;
+    }
+    lines
+}
+
+// Runs every line of one length from one start, beginning with the given line, and stops at the first that fails. The failing line is
+// left in place, and the number of its ending is answered; 0 if none fails.
+fn failing_line(file: &[u8], kinds: u8, start: u8, line: &mut [u8]) -> u32 {
+    let lines = lines_of(kinds, line.len());
+    let mut number: u32 = 0;
+    while number < lines {
+        let end = run_end(file, start, line);
+        if end != 0 {
+            return end;
+        }
+        next_line(line, kinds);
+        number += 1;
+    }
+    0
+}
+
+// Runs every line of one length from each start.
+fn failing_start(file: &[u8], shape: Shape, line: &mut [u8]) -> FirstFailing {
+    let mut start: u8 = 0;
+    while start < shape.worlds {
+        let end = failing_line(file, shape.kinds, start, line);
+        if end != 0 {
+            return FirstFailing::Line(end, start, line.len());
+        }
+        start += 1;
+    }
+    FirstFailing::Nothing
+}
+
+// Runs every line that fits into the buffer. The buffer is lent full of 1s, and the line that fails is left at its front.
+pub fn first_failing(file: &[u8], buffer: &mut [u8]) -> FirstFailing {
+    let shape = shape_of(file);
+    let mut lamps = 0;
+    while lamps <= buffer.len() {
+        let found = failing_start(file, shape, &mut buffer[..lamps]);
+        if let FirstFailing::Line(end, start, length) = found {
+            return found;
+        }
+        lamps += 1;
+    }
+    FirstFailing::Nothing
+}

@@ -1,0 +1,38 @@
+-- Demand 3 for the cabinet: if the check accepts, every list of calls along any line is answered as owed; and along any line the cabinet
+-- follows the execution.
+use mathlib.Core.Path.{_≡_}
+use lib.ListN.{length}
+use Rattle.plans.specs.Execution.{Correct}
+use Rattle.lamp_line.specs.Tables.{lampLine}
+use Rattle.lamp_line.specs.Check.{situation}
+use Rattle.job_layout.specs.Layout.{head}
+use Rattle.job_layout.specs.JobTables.{tablesOf}
+use Rattle.job_tables.proofs.Ranges.{well-formed}
+use Rattle.cabinet.specs.CabinetAnswers.{firstMachine}
+use Rattle.cabinet.proofs.Answering.{begin-opened}
+use Rattle.cabinet.proofs.Following.{begins-within, execution-reported}
+use Rattle.cabinet.proofs.Serving.{serves-execution}
+use Rattle.guarantee.specs.CabinetPromises.{CabinetServed, CabinetFollows}
+use Rattle.guarantee.proofs.CheckMeans.{accepted-means}
+
+pub cabinet-served : CabinetServed
+unfolding Correct
+cabinet-served s count before after checked start lamps beginning few =
+    let (opened, accepts) = accepted-means s before after count checked in
+    let (ls, last, execution, goal) = accepts .correct (situation start (lampLine lamps)) beginning in
+    let serves = serves-execution s opened execution (begins-within (tablesOf s) (well-formed s (head s) opened) beginning) in
+    record {
+      begun = firstMachine (tablesOf s) (length lamps);
+      begins = begin-opened s opened (length lamps);
+      labels = ls;
+      last = last;
+      execution = execution;
+      goal = goal;
+      owed = λ calls reports. serves calls reports .owed;
+      leaves = λ calls reports. serves calls reports .leaves;
+    }
+
+pub cabinet-follows : CabinetFollows
+cabinet-follows s j opened start lamps beginning begun begins ls q at execution =
+    let same : begun ≡ firstMachine (tablesOf s) (length lamps) = cc (begin-opened s opened (length lamps)) in
+    rw same (execution-reported s opened execution (begins-within (tablesOf s) (well-formed s j opened) beginning))

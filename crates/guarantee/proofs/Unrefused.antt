@@ -1,0 +1,55 @@
+-- What is known of a run that is not refused: its file is not, and neither of its own rules applies.
+use mathlib.Core.Path.{_≡_, refl, sym}
+use mathlib.Core.Bool.{Bool, true, false, _||_, not}
+use mathlib.Core.Option.{none}
+use mathlib.Core.List.{List, [], _∷_}
+use Prim.Native.Nat.{ℕ, _≤_}
+use native.Mathlib.Omega.{arith}
+use borrow.Author.Tests.{ltb-false}
+use lib.Dec.{leb, ltb}
+use lib.ListN.{length}
+use Rattle.lamp_line.specs.declared.WorldState.{WorldState}
+use Rattle.lamp_line.specs.Tables.{lampLine, Beginning}
+use Rattle.lamp_line.specs.Refusals.{_when_, refusal}
+use Rattle.lamp_line.proofs.Answering.{none-of-both, first-not-applied}
+use Rattle.job_layout.specs.Layout.{head}
+use Rattle.job_layout.specs.JobTables.{tablesOf}
+use Rattle.job_file.specs.Reading.{fileRules, Opened}
+use Rattle.job_file.proofs.Opening.{opened-unrefused}
+use Rattle.line_run.specs.RunAnswers.{startUnmarked, lineWrong, runRules}
+use Rattle.line_run.proofs.RunLoop.{line-right}
+use Rattle.check_laws.proofs.TableGraph.{one-end-kind}
+
+-- A run that is not refused: of the file, from a marked start, along at most 65,535 lamps of the job.
+pub record UnrefusedRun (s : List ℕ) (start : WorldState) (lamps : List ℕ) : Type 0 where
+  pub opened : Opened s (head s)
+  pub beginning : Beginning (tablesOf s) start (lampLine lamps)
+  pub few : length lamps ≤ 65535
+
+marked-unless : (a b : Bool) → (a || not b) ≡ false → b ≡ true
+marked-unless a true e = refl
+marked-unless true false e = sym e
+marked-unless false false e = sym e
+
+first-false : (a b : Bool) → (a || b) ≡ false → a ≡ false
+first-false true b e = e
+first-false false b e = refl
+
+-- A run whose rules do not apply is one.
+pub unrefused-run :
+    (s : List ℕ) (start : WorldState) (lamps : List ℕ) → refusal (runRules s start lamps) ≡ none → UnrefusedRun s start lamps
+unrefused-run s start lamps e =
+    let opened = opened-unrefused s ((14 when startUnmarked (tablesOf s) start) ∷ (15 when lineWrong (tablesOf s .kinds) lamps) ∷ []) e in
+    let own = none-of-both (fileRules s)
+    ((14 when startUnmarked (tablesOf s) start) ∷ (15 when lineWrong (tablesOf s .kinds) lamps) ∷ []) e .1 in
+    let (marked, after) = first-not-applied 14 (startUnmarked (tablesOf s) start) _ own in
+    let (right, _) = first-not-applied 15 (lineWrong (tablesOf s .kinds) lamps) [] after in
+    record {
+      opened = opened;
+      beginning =
+          record {
+            marked = marked-unless (leb (tablesOf s .worlds) (start .0)) (tablesOf s .start start) marked;
+            fits = record { of-kinds = line-right (tablesOf s .kinds) lamps right; ended = omega (arith, one-end-kind (tablesOf s)) };
+          };
+      few = ltb-false 65535 (length lamps) (first-false (ltb 65535 (length lamps)) _ right);
+    }

@@ -1,0 +1,159 @@
+-- A refusal cannot be read as an answer: the rules have the numbers 1 to 19, only refusals have the code 255, and both fields are read back
+-- whatever the fields above them hold.
+use mathlib.Core.Path.{_≡_, refl}
+use mathlib.Core.Bool.{Bool, true, false, cond, _&&_, and-eq-true-iff}
+use mathlib.Core.Option.{Option, none, some}
+use mathlib.Core.List.{List, [], _∷_}
+use Prim.Native.Nat.{ℕ, _≤_}
+use native.Mathlib.Omega.{arith}
+use borrow.Author.Tests.{leb-true}
+use lib.Dec.{eqb, leb}
+use lib.ListN.{length}
+use Rattle.lamp_line.specs.declared.ProgramState.{ProgramState}
+use Rattle.lamp_line.specs.declared.FailureKind.{FailureKind}
+use Rattle.lamp_line.specs.declared.FailureKind.the-variants.{NotLegal, NoBranch, Circles, GoalFalse}
+use Rattle.lamp_line.specs.declared.Ending.{Ending}
+use Rattle.lamp_line.specs.declared.Ending.the-variants.{Goal, Failure}
+use Rattle.lamp_line.specs.declared.Cabinet.{Cabinet}
+use Rattle.lamp_line.specs.Endings.{kindNumber}
+use Rattle.lamp_line.specs.Refusals.{Rule, _when_, refusal, orRefused, answerBy}
+use Rattle.lamp_line.specs.Tables.{Tables, lampLine}
+use Rattle.lamp_line.specs.Run.{Walk, ended, arrived, Limited, within, stopped, pair, lampWalk, limited, run as lineRun}
+use Rattle.job_layout.specs.JobTables.{tablesOf}
+use Rattle.job_file.specs.declared.Reading.the-variants as reading
+use Rattle.job_file.specs.Reading.{fileRules, readingOf}
+use Rattle.plan_check.specs.CheckAnswers.{checkRules}
+use Rattle.line_run.specs.RunAnswers.{runRules}
+use Rattle.lamp_walk.specs.WalkAnswers.{walkRules}
+use Rattle.lamp_walk.specs.declared.WalkAnswer.the-variants as walk
+use Rattle.lamp_walk.specs.WalkAnswers.{walkAnswer}
+use Rattle.lamp_walk.specs.WalkAnswers as walked
+use Rattle.line_run.specs.declared.RunAnswer.the-variants as run
+use Rattle.line_run.specs.RunAnswers.{runAnswer}
+use Rattle.line_run.specs.RunAnswers as ran
+use Rattle.plan_check.specs.declared.CheckAnswer.{CheckAnswer}
+use Rattle.plan_check.specs.declared.CheckAnswer.the-variants as check
+use Rattle.plan_check.specs.CheckAnswers.{AnsweredRight, Lent, CheckedBy}
+use Rattle.cabinet.specs.declared.BeginAnswer.the-variants as begin
+use Rattle.cabinet.specs.declared.ActionAnswer.the-variants as action
+use Rattle.cabinet.specs.CabinetAnswers.{keeping, isMoving, followed, beginAnswer, actionAnswer, reportAnswer}
+use Rattle.nessflurry_c.specs.AnswerWords.{answerWord, goalCode, stoppedCode, arrivedCode, endedCode, refusedCode, endingCode, refusedWord, cabinetWord, readWord, walkWord, runWord, checkWord, beginWord, actionWord, reportWord}
+use Rattle.nessflurry_c.specs.Fields.{RefusalShown, RefusalsShown}
+
+-- ---- one word
+
+-- An answer has a code up to 7, and 0 in the refusal field.
+answered : (code state world count : ℕ) → code ≤ 7 → RefusalShown (answerWord 0 code state world count)
+unfolding answerWord
+answered code state world count code≤ = (λ e. absurd (omega arith), λ not-0. absurd (not-0 (omega arith)))
+
+-- A refusal has the code 255, and its number in the refusal field.
+refused : (number state count : ℕ) → 1 ≤ number → number ≤ 19 → RefusalShown (answerWord number refusedCode state 0 count)
+unfolding answerWord
+refused number state count 1≤ ≤19 = (λ e is-0. omega arith, λ not-0. omega arith)
+
+kind-code : (kind : FailureKind) → kindNumber kind ≤ 7
+kind-code NotLegal = omega arith
+kind-code NoBranch = omega arith
+kind-code Circles = omega arith
+kind-code GoalFalse = omega arith
+
+ending-code : (x : Ending) → endingCode x ≤ 7
+ending-code Goal = omega arith
+ending-code (Failure kind) = kind-code kind
+
+-- ---- the rules
+
+-- Tests that the numbers of the rules are within 1 to 19.
+unfoldable numbered : List Rule → Bool
+numbered [] = true
+numbered ((number when applies) ∷ rules) = leb 1 number && leb number 19 && numbered rules
+
+abbrev Numbered : Option ℕ → Type 0
+Numbered none = Unit
+Numbered (some number) = (1 ≤ number) × (number ≤ 19)
+
+-- Then so is that of the first rule that applies.
+first-number : (rules : List Rule) → numbered rules ≡ true → Numbered (refusal rules)
+unfolding numbered refusal
+first-number [] e = tt
+first-number ((number when true) ∷ rules) e =
+    let in-range = and-eq-true-iff (leb 1 number && leb number 19) (numbered rules) .0 e .0 in
+    let (low, high) = and-eq-true-iff (leb 1 number) (leb number 19) .0 in-range in
+    (leb-true _ _ low, leb-true _ _ high)
+first-number ((number when false) ∷ rules) e =
+    first-number rules (and-eq-true-iff (leb 1 number && leb number 19) (numbered rules) .0 e .1)
+
+-- An operation that answers by such rules: its answer shows whether it is a refusal, if each refusal and the answer without one do.
+by-rules : {A : Type 0} (refuse : ℕ → A) (word : A → ℕ) →
+    ((number : ℕ) → 1 ≤ number → number ≤ 19 → RefusalShown (word (refuse number))) →
+    (rules : List Rule) → numbered rules ≡ true → (answer : A) → RefusalShown (word answer) →
+    RefusalShown (word (answerBy refuse rules answer))
+unfolding answerBy
+by-rules refuse word shown rules e answer right = by (refusal rules) (first-number rules e)
+  where
+    by : (o : Option ℕ) → Numbered o → RefusalShown (word (orRefused refuse o answer))
+    by none n = right
+    by (some number) n = shown number (n .0) (n .1)
+
+-- ---- the operations
+
+refused-empty : (number : ℕ) → 1 ≤ number → number ≤ 19 → RefusalShown (refusedWord number)
+refused-empty number = refused number 0 0
+
+begun-shown : (m : Cabinet) → RefusalShown (cabinetWord 0 goalCode m)
+begun-shown m = answered goalCode (m .state .0) 0 (m .lamps) (omega arith)
+
+walked-shown : (x : Walk) → RefusalShown (walkWord (walked.walkAnswerOf x))
+walked-shown (ended x k) = answered (endingCode x) 0 0 k (ending-code x)
+walked-shown (arrived p k) = answered arrivedCode (p .state .0) (p .world .0) k (omega arith)
+
+ran-shown : (x : Limited) → RefusalShown (runWord (ran.runAnswerOf x))
+ran-shown (within x k) = answered (endingCode x) 0 0 k (ending-code x)
+ran-shown (stopped k) = answered stoppedCode 0 0 k (omega arith)
+
+checked-shown : (o : Option ℕ) → Numbered o → (t : Tables) (x : CheckAnswer) (before after : Lent) →
+    CheckedBy o t x before after → RefusalShown (checkWord x)
+unfolding AnsweredRight
+checked-shown none n t (check.Accepted count) before after h = answered goalCode 0 0 count (omega arith)
+checked-shown none n t (check.Failed f) before after h =
+    answered (kindNumber (f .kind)) (f .start .0) 0 (f .lamps) (kind-code (f .kind))
+checked-shown none n t (check.Refused number) before after h = absurd h
+checked-shown (some number) n t x before after h = rw (h .0) (refused-empty number (n .0) (n .1))
+
+asked-shown : (final : Bool) (a : ℕ) → RefusalShown (actionWord (cond final action.Ended (action.Action a)))
+asked-shown true a = answered endedCode 0 0 0 (omega arith)
+asked-shown false a = answered goalCode a 0 0 (omega arith)
+
+refused-report : (m : Cabinet) (number : ℕ) → 1 ≤ number → number ≤ 19 → RefusalShown (reportWord (keeping m number))
+refused-report m number = refused number (m .state .0) (m .lamps)
+
+followed-shown : (t : Tables) (m : Cabinet) (target : Option ProgramState) → RefusalShown (reportWord (followed t m target))
+unfolding numbered
+followed-shown t m none = refused-report m 18 (omega arith) (omega arith)
+followed-shown t m (some q) =
+    by-rules (keeping m) reportWord (refused-report m) ((19 when isMoving t m && eqb (m .lamps) 0) ∷ []) refl _ (begun-shown _)
+
+pub refusals-shown : RefusalsShown
+unfolding numbered readingOf walkAnswer runAnswer beginAnswer actionAnswer reportAnswer
+refusals-shown =
+    record {
+      of-read = λ s. by-rules reading.Refused readWord refused-empty (fileRules s) refl _ (answered goalCode 0 0 0 (omega arith));
+      of-walk = λ s q w column.
+          by-rules walk.Refused walkWord refused-empty (walkRules s q w column) refl _
+          (walked-shown (lampWalk (tablesOf s) (pair q w) column));
+      of-run = λ s start lamps limit.
+          by-rules run.Refused runWord refused-empty (runRules s start lamps) refl _
+          (ran-shown (limited limit (lineRun (tablesOf s) start (lampLine lamps))));
+      of-check = λ s n before after checked.
+          let rules = checkRules s (length (before .line)) (length (before .list)) (length (before .words)) in
+          rw (checked .as-number)
+          (checked-shown (refusal rules) (first-number rules refl) (tablesOf s) (checked .answer) before after (checked .checked));
+      of-begin = λ s lamps. by-rules begin.Refused beginWord refused-empty (fileRules s) refl _ (begun-shown _);
+      of-action = λ s m.
+          by-rules action.Refused actionWord refused-empty _ refl _
+          (asked-shown (eqb (m .state .0) (tablesOf s .states)) (tablesOf s .action (m .state)));
+      of-report = λ s m result.
+          by-rules (keeping m) reportWord (refused-report m) _ refl _
+          (followed-shown (tablesOf s) m (tablesOf s .target (m .state) result));
+    }
