@@ -7,7 +7,7 @@ use Prim.Native.Nat.{ℕ}
 use lib.ListN.{set, take}
 use Rattle.lamp_line.specs.Tables.{columns}
 use Rattle.lamp_line.specs.Refusals.{refusal, some-below}
-use Rattle.job_rules.specs.Rules.{numberWrong, placeWrong, lengthWrong}
+use Rattle.job_layout.specs.Rules.{numberWrong, placeWrong, lengthWrong}
 use Rattle.job_file.specs.Reading.{fileRules}
 use Rattle.bench_line.specs.BenchJobs.{each, planBytes, benchJob, G}
 

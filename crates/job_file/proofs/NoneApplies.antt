@@ -8,7 +8,7 @@ use native.Mathlib.Omega.{arith}
 use Rattle.lamp_line.specs.Refusals.{Rule, _when_, refusal, orRefused, answerBy}
 use Rattle.job_layout.specs.declared.Job.{Job}
 use Rattle.job_layout.specs.Layout.{head}
-use Rattle.job_rules.specs.Rules.{sizeWrong, numberWrong, placeWrong, lengthWrong, markWrong, cellWrong, endWrong, startWrong, goalWrong, actionWrong, targetWrong}
+use Rattle.job_layout.specs.Rules.{sizeWrong, numberWrong, placeWrong, lengthWrong, markWrong, cellWrong, endWrong, startWrong, goalWrong, actionWrong, targetWrong}
 use Rattle.job_file.specs.declared.Reading.the-variants as reading
 use Rattle.job_file.specs.Reading.{rules, fileRules, readingOf, Opened}
 

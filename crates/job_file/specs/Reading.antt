@@ -5,7 +5,7 @@ use Prim.Native.Nat.{ℕ}
 use Rattle.lamp_line.specs.Refusals.{Rule, _when_, answerBy}
 use Rattle.job_layout.specs.declared.Job.{Job}
 use Rattle.job_layout.specs.Layout.{head}
-use Rattle.job_rules.specs.Rules.{sizeWrong, numberWrong, placeWrong, lengthWrong, markWrong, cellWrong, endWrong, startWrong, goalWrong, actionWrong, targetWrong}
+use Rattle.job_layout.specs.Rules.{sizeWrong, numberWrong, placeWrong, lengthWrong, markWrong, cellWrong, endWrong, startWrong, goalWrong, actionWrong, targetWrong}
 use Rattle.job_file.specs.declared.Reading.{Reading}
 use Rattle.job_file.specs.declared.Reading.the-variants as reading
 

@@ -1,3 +1,4 @@
 pub mod JobTables
 pub mod Layout
+pub mod Rules
 pub mod inner

@@ -20,8 +20,8 @@ use Rattle.run_laws.proofs.Walks.{arrived-in-range, arrived-at-lamp}
 use Rattle.run_laws.proofs.LoopLaws.{RunOwes, run-owes-start, run-owes-passes, run-owes-ends, run-owes-stopped}
 use Rattle.job_layout.specs.declared.Job.{Job}
 use Rattle.job_layout.specs.JobTables.{tablesBy, tablesOf}
-use Rattle.job_rules.specs.Rules.{outside}
-use Rattle.job_rules.proofs.HeadLaws.{neither}
+use Rattle.job_layout.specs.Rules.{outside}
+use Rattle.head_rules.proofs.HeadLaws.{neither}
 use Rattle.job_file.specs.Reading.{Opened}
 use Rattle.line_run.specs.RunAnswers.{lineWrong}
 use Rattle.job_file.proofs.WellFormed.{tables-are, well-formed-by}

@@ -9,7 +9,7 @@ use Rattle.lamp_line.specs.Tables.{Tables, lampLine}
 use Rattle.lamp_line.specs.Refusals.{Rule, _when_, answerBy, some-of}
 use Rattle.lamp_line.specs.Run.{Limited, within, stopped, run, limited}
 use Rattle.job_layout.specs.JobTables.{tablesOf}
-use Rattle.job_rules.specs.Rules.{outside}
+use Rattle.job_layout.specs.Rules.{outside}
 use Rattle.job_file.specs.Reading.{fileRules}
 use Rattle.line_run.specs.declared.RunAnswer.{RunAnswer}
 use Rattle.line_run.specs.declared.RunAnswer.the-variants as answer

@@ -5,7 +5,7 @@ ghost use Rattle.lamp_line.specs.Tables.{Kinds};
 ghost use Rattle.lamp_line.specs.Refusals.{some-of};
 ghost use Rattle.lamp_line.specs.Run.{ran, run, limited};
 ghost use Rattle.job_layout.specs.JobTables.{tablesOf};
-ghost use Rattle.job_rules.specs.Rules.{outside};
+ghost use Rattle.job_layout.specs.Rules.{outside};
 ghost use Rattle.job_file.specs.Reading.{Opened};
 ghost use Rattle.line_run.specs.RunAnswers.{lineWrong};
 ghost use Rattle.line_run.specs.RunAnswers.{runAnswerOf, runAnswer};

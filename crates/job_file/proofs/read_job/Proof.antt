@@ -2,7 +2,7 @@
 use borrow.Author.Needs.{needs}
 use mathlib.Core.Path.{sym, _∙_}
 use borrow.Author.Tests.{ltb-false}
-use Rattle.job_rules.proofs.HeadLaws.{neither, laid}
+use Rattle.head_rules.proofs.HeadLaws.{neither, laid}
 use Rattle.job_file.proofs.ReadingLaws.{size-refused, number-refused, place-refused, length-refused, head-read}
 use Rattle.job_file.proofs.read_job.Statement.{statement}
 use Rattle.job_file.proofs.read_job.Tie as tie

@@ -1,0 +1,225 @@
+// Refusals 5 to 11: the bytes of the parts.
+//
+// These functions are for the reader in the crate above and not for users: each asks for parts that lie in the file, which
+// refusals 1 to 4 ensure.
+ghost use mathlib.Core.Path.{_≡_};
+ghost use Prim.Native.Nat.{_+_, _*_, _≤_, _<_};
+ghost use lib.ListN.{length};
+ghost use Rattle.lamp_line.specs.Refusals.{some-below};
+ghost use Rattle.job_layout.specs.inner.Laid.{Laid};
+ghost use Rattle.job_layout.specs.Rules.{notBit, markWrong, goalWrong, isSet, startWrong, cellWrongIn, cellWrongAt, cellWrong, legalAtEnd, movesOnAtEnd, endWrong, actionWrong, targetWrongAt, rowWrong, targetWrong};
+use job_layout::Job;
+use job_layout::places::action_place;
+use job_layout::places::cell_count;
+use job_layout::places::goal_count;
+use job_layout::places::mark_place;
+use job_layout::places::next_place;
+use lamp_line::ProgramState;
+use lamp_line::WorldState;
+
+// One of the `count` bytes from `from` on is neither 0 nor 1.
+fn any_not_bit(file: &[u8], from: usize, count: usize) -> bool
+    requires { ⌜ from + count ≤ length (now file) ⌝ }
+    ensures { λ r. ⌜ r ≡ some-below count (notBit (now (file .entry)) from) ⌝ }
+{
+    let mut i = 0;
+    while i < count {
+        if 1 < file[from + i] {
+            return true;
+        }
+        i += 1;
+    }
+    false
+}
+
+// One of the `count` bytes from `from` on is 1.
+fn any_set(file: &[u8], from: usize, count: usize) -> bool
+    requires { ⌜ from + count ≤ length (now file) ⌝ }
+    ensures { λ r. ⌜ r ≡ some-below count (isSet (now (file .entry)) from) ⌝ }
+{
+    let mut i = 0;
+    while i < count {
+        if file[from + i] == 1 {
+            return true;
+        }
+        i += 1;
+    }
+    false
+}
+
+// Refusal 5 applies.
+pub fn mark_wrong(file: &[u8], job: Job) -> bool
+    requires { ⌜ Laid (now file) job ⌝ }
+    ensures { λ r. ⌜ r ≡ markWrong (now (file .entry)) job ⌝ }
+{
+    let marks = job.marks;
+    any_not_bit(file, marks.offset as usize, job.actions as usize)
+}
+
+// Refusal 9 applies.
+pub fn goal_wrong(file: &[u8], job: Job) -> bool
+    requires { ⌜ Laid (now file) job ⌝ }
+    ensures { λ r. ⌜ r ≡ goalWrong (now (file .entry)) job ⌝ }
+{
+    let goal = job.goal;
+    any_not_bit(file, goal.offset as usize, goal_count(job))
+}
+
+// Refusal 8 applies.
+pub fn start_wrong(file: &[u8], job: Job) -> bool
+    requires { ⌜ Laid (now file) job ⌝ }
+    ensures { λ r. ⌜ r ≡ startWrong (now (file .entry)) job ⌝ }
+{
+    let starts = job.starts;
+    let from = starts.offset as usize;
+    let count = job.worlds as usize;
+    any_not_bit(file, from, count) | !any_set(file, from, count)
+}
+
+// Most cells are legal and in range; for those the first two tests are enough.
+fn is_cell_wrong(worlds: u8, results: u8, next: u8, result: u8) -> bool
+    ensures { λ r. ⌜ r ≡ cellWrongIn worlds results next result ⌝ }
+{
+    if worlds <= next {
+        return true;
+    }
+    if result < results {
+        return false;
+    }
+    (result != 255) | (next != 0)
+}
+
+// One of the `count` cells from `from` on is out of range.
+fn any_cell_wrong(file: &[u8], from: usize, count: usize, worlds: u8, results: u8) -> bool
+    requires { ⌜ from + 2 * count ≤ length (now file) ⌝ }
+    ensures { λ r. ⌜ r ≡ some-below count (cellWrongAt (now (file .entry)) from worlds results) ⌝ }
+{
+    let mut i = 0;
+    while i < count {
+        let at = from + 2 * i;
+        if is_cell_wrong(worlds, results, file[at], file[at + 1]) {
+            return true;
+        }
+        i += 1;
+    }
+    false
+}
+
+// Refusal 6 applies.
+pub fn cell_wrong(file: &[u8], job: Job) -> bool
+    requires { ⌜ Laid (now file) job ⌝ }
+    ensures { λ r. ⌜ r ≡ cellWrong (now (file .entry)) job ⌝ }
+{
+    let cells = job.cells;
+    any_cell_wrong(
+        file,
+        cells.offset as usize,
+        cell_count(job) as usize,
+        job.worlds,
+        job.results,
+    )
+}
+
+// The action is legal in column 0 in some world state.
+fn legal_at_end(file: &[u8], job: Job, action: u8) -> bool
+    requires { ⌜ Laid (now file) job × (action < job .actions) ⌝ }
+    ensures { λ r. ⌜ r ≡ some-below (job .worlds) (legalAtEnd (now (file .entry)) job action) ⌝ }
+{
+    let worlds = job.worlds;
+    let mut w = 0;
+    while w < worlds {
+        let at = next_place(job, action, WorldState(w), 0);
+        if file[at + 1] != 255 {
+            return true;
+        }
+        w += 1;
+    }
+    false
+}
+
+// The action moves on, and is legal in column 0 in some world state.
+fn moves_on_at_end(file: &[u8], job: Job, action: u8) -> bool
+    requires { ⌜ Laid (now file) job × (action < job .actions) ⌝ }
+    ensures { λ r. ⌜ r ≡ movesOnAtEnd (now (file .entry)) job action ⌝ }
+{
+    let at = mark_place(job, action);
+    if file[at] == 1 {
+        return legal_at_end(file, job, action);
+    }
+    false
+}
+
+// Refusal 7 applies.
+pub fn end_wrong(file: &[u8], job: Job) -> bool
+    requires { ⌜ Laid (now file) job ⌝ }
+    ensures { λ r. ⌜ r ≡ endWrong (now (file .entry)) job ⌝ }
+{
+    let actions = job.actions;
+    let mut a = 0;
+    while a < actions {
+        if moves_on_at_end(file, job, a) {
+            return true;
+        }
+        a += 1;
+    }
+    false
+}
+
+// Refusal 10 applies.
+pub fn action_wrong(file: &[u8], job: Job) -> bool
+    requires { ⌜ Laid (now file) job ⌝ }
+    ensures { λ r. ⌜ r ≡ actionWrong (now (file .entry)) job ⌝ }
+{
+    let actions = job.actions;
+    let states = job.states;
+    let mut q = 0;
+    while q < states {
+        let at = action_place(job, ProgramState(q));
+        if actions <= file[at] {
+            return true;
+        }
+        q += 1;
+    }
+    false
+}
+
+// One of the `count` targets from `from` on is above the final state, and not 255.
+fn any_target_wrong(file: &[u8], from: usize, count: usize, states: u8) -> bool
+    requires { ⌜ from + count ≤ length (now file) ⌝ }
+    ensures { λ r. ⌜ r ≡ some-below count (targetWrongAt (now (file .entry)) from states) ⌝ }
+{
+    let mut i = 0;
+    while i < count {
+        let target = file[from + i];
+        if (states < target) & (target != 255) {
+            return true;
+        }
+        i += 1;
+    }
+    false
+}
+
+// One of the targets of a program state is wrong.
+fn row_wrong(file: &[u8], job: Job, state: u8) -> bool
+    requires { ⌜ Laid (now file) job × (state < job .states) ⌝ }
+    ensures { λ r. ⌜ r ≡ rowWrong (now (file .entry)) job state ⌝ }
+{
+    let from = action_place(job, ProgramState(state)) + 1;
+    any_target_wrong(file, from, job.results as usize, job.states)
+}
+
+// Refusal 11 applies.
+pub fn target_wrong(file: &[u8], job: Job) -> bool
+    requires { ⌜ Laid (now file) job ⌝ }
+    ensures { λ r. ⌜ r ≡ targetWrong (now (file .entry)) job ⌝ }
+{
+    let states = job.states;
+    let mut q = 0;
+    while q < states {
+        if row_wrong(file, job, q) {
+            return true;
+        }
+        q += 1;
+    }
+    false
+}
