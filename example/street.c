@@ -1,6 +1,6 @@
 /*
  * A cabinet's firmware in small. It checks the plan of a job; if the plan is right on every line, it takes a cabinet along one
- * line, with the lamps of that line played by the job's own tables.
+ * line, with the lamps of that line played by the job's own tables. The cabinet keeps a log, which is replayed at the end.
  *
  *     street JOB KIND...        for example: street samples/bench_g.job 1 2 1
  */
@@ -87,6 +87,18 @@ static void foretell(void)
     printf("the run of the line ends with code %d after %u steps\n", nessflurry_code_of(answer), nessflurry_steps_of(answer));
 }
 
+/* The cabinet's log: the action and the result of each step. What comes after the longest log is not kept. */
+static uint8_t entries[NESSFLURRY_MAX_LOG_SIZE];
+static size_t log_size;
+
+static void keep(uint8_t action, uint8_t result)
+{
+    if (log_size == sizeof entries)
+        return;
+    entries[log_size++] = action;
+    entries[log_size++] = result;
+}
+
 /* The cabinet: it is told how many lamps there are, and senses the rest. Its whole state is one answer. */
 static void walk_the_line(void)
 {
@@ -99,9 +111,20 @@ static void walk_the_line(void)
             break;
         uint8_t action = nessflurry_action_of(next), result = perform(action);
         printf("state %d, %d lamps left: action %d, result %d\n", state, left, action, result);
+        keep(action, result);
         cabinet = not_refused("report", nessflurry_report(file, file_size, state, left, result));
     }
     printf("the cabinet ended in state %d with %d lamps left\n", nessflurry_state_of(cabinet), nessflurry_lamps_of(cabinet));
+}
+
+/* What the office does with a log that a crew brings back. */
+static void replay_the_log(void)
+{
+    uint64_t answer = not_refused("replay", nessflurry_replay(file, file_size, entries, log_size));
+    if (nessflurry_code_of(answer) == NESSFLURRY_POSSIBLE)
+        printf("the log of %zu entries is possible\n", log_size / 2);
+    else
+        printf("no start and line give the log up to entry %d\n", nessflurry_place_of(answer));
 }
 
 int main(int argc, char **argv)
@@ -117,6 +140,7 @@ int main(int argc, char **argv)
         world++;
     foretell();
     walk_the_line();
+    replay_the_log();
     puts(goal_holds() ? "the goal holds" : "the goal does not hold");
     return goal_holds() ? 0 : 1;
 }

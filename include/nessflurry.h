@@ -31,13 +31,14 @@
  * - Only `head` of nessflurry_read and `line`, `list` and `words` of nessflurry_check are ever written. They must not overlap each
  *   other or the file. A refused call writes nothing.
  * - No call allocates memory, keeps a pointer, or touches anything but what it is handed, and every call returns.
- * - Threads: the library has no state of its own. Any number of calls may run at once, and may share a file or a line that nobody
- *   writes meanwhile. What a call writes must not be shared while the call runs.
- * - Stack: nessflurry_check needs NESSFLURRY_CHECK_STACK bytes, whatever the file; every other call needs less than 400 bytes.
+ * - Threads: the library has no state of its own. Any number of calls may run at once, and may share a file, a line or a log that
+ *   nobody writes meanwhile. What a call writes must not be shared while the call runs.
+ * - Stack: nessflurry_check needs NESSFLURRY_CHECK_STACK bytes, whatever the file; every other call needs less than 600 bytes.
  * - Time: nothing is remembered between calls, so each one tests the whole file again and costs at least what nessflurry_read does:
  *   some 0.1 microseconds for a file of a hundred bytes, some 15 for the largest tables. A check takes a few milliseconds at most.
  *   A walk makes at most S * W steps, and a run at most that many for each lamp and for the end of the line; a step takes some ten
- *   nanoseconds (docs/SPEED.md).
+ *   nanoseconds. A replay takes some twenty nanoseconds for an entry, and a microsecond for one that leaves every world state possible
+ *   at every column: 40 milliseconds at most (docs/SPEED.md).
  */
 #ifndef NESSFLURRY_H
 #define NESSFLURRY_H
@@ -47,7 +48,7 @@
 
 /*
  * The version of this header. nessflurry_version() returns the library's. If the two differ, the library has other functions or
- * answers than this header describes: call nothing else of it.
+ * answers than this header describes: call nothing else of it. A library that has more functions keeps its version.
  */
 #define NESSFLURRY_VERSION 1
 
@@ -75,6 +76,7 @@ enum {
     NESSFLURRY_GOAL = 0,       /* walk, run: ended in the final state with the goal true */
     NESSFLURRY_ACCEPTED = 0,   /* check: the plan is right on every line */
     NESSFLURRY_ACTION = 0,     /* action: there is an action to perform */
+    NESSFLURRY_POSSIBLE = 0,   /* replay: some start and line give the log */
     NESSFLURRY_NOT_LEGAL = 1,  /* walk, run, check: failure 1, the plan's action is not legal */
     NESSFLURRY_NO_BRANCH = 2,  /* failure 2, the plan has no branch for the sensed result */
     NESSFLURRY_CIRCLES = 3,    /* failure 3, the plan goes on for ever at one lamp or at the end of the line */
@@ -82,6 +84,7 @@ enum {
     NESSFLURRY_STOPPED = 5,    /* run: not ended within the limit of steps */
     NESSFLURRY_ARRIVED = 6,    /* walk: moved on, to the next lamp or to the end of the line */
     NESSFLURRY_ENDED = 7,      /* action: the cabinet is in the final state */
+    NESSFLURRY_IMPOSSIBLE = 8, /* replay: no start and line give the log */
     NESSFLURRY_REFUSED = 255   /* any: see nessflurry_refusal_of */
 };
 
@@ -108,13 +111,17 @@ enum {
     /* What a cabinet reports. */
     NESSFLURRY_REFUSED_AFTER_END = 17, /* the cabinet is in the final state */
     NESSFLURRY_REFUSED_RESULT = 18,    /* no such result, or the plan has no branch for it here */
-    NESSFLURRY_REFUSED_NO_LAMP = 19    /* the action moves on, but no lamp is left */
+    NESSFLURRY_REFUSED_NO_LAMP = 19,   /* the action moves on, but no lamp is left */
+    /* A cabinet's log. */
+    NESSFLURRY_REFUSED_LOG_SIZE = 20,   /* replay: an odd number of bytes, or more than 65,534 */
+    NESSFLURRY_REFUSED_LOG_ENTRIES = 21 /* replay: an entry with an action or a result that the job does not have */
 };
 
 /* Sizes. */
 enum {
     NESSFLURRY_MAX_FILE_SIZE = 65535,   /* the longest job file, in bytes */
     NESSFLURRY_MAX_LAMPS = 65535,       /* the longest line that can be run */
+    NESSFLURRY_MAX_LOG_SIZE = 65534,    /* the longest log that can be replayed, in bytes */
     NESSFLURRY_LINE_SIZE = 4097,        /* check: enough elements in `line` for every job, */
     NESSFLURRY_LIST_SIZE = 4160,        /* in `list`, */
     NESSFLURRY_WORDS_SIZE = 65,         /* and in `words` */
@@ -152,7 +159,7 @@ enum {
  *     bits  8 to 15   code
  *     bits 16 to 23   a program state, a start or an action
  *     bits 24 to 31   a world state
- *     bits 32 to 63   a number of steps, pairs or lamps
+ *     bits 32 to 63   a number of steps, pairs or lamps, or a place in a log
  */
 static inline uint8_t nessflurry_refusal_of(uint64_t answer) { return NESSFLURRY_CAST(uint8_t, answer); }
 static inline uint8_t nessflurry_code_of(uint64_t answer) { return NESSFLURRY_CAST(uint8_t, answer >> 8); }
@@ -163,6 +170,7 @@ static inline uint8_t nessflurry_world_of(uint64_t answer) { return NESSFLURRY_C
 static inline uint32_t nessflurry_steps_of(uint64_t answer) { return NESSFLURRY_CAST(uint32_t, answer >> 32); }
 static inline uint32_t nessflurry_pairs_of(uint64_t answer) { return NESSFLURRY_CAST(uint32_t, answer >> 32); }
 static inline uint16_t nessflurry_lamps_of(uint64_t answer) { return NESSFLURRY_CAST(uint16_t, answer >> 32); }
+static inline uint16_t nessflurry_place_of(uint64_t answer) { return NESSFLURRY_CAST(uint16_t, answer >> 32); }
 
 /* ---- The library's functions ---- */
 
@@ -188,6 +196,8 @@ NESSFLURRY_NODISCARD
 uint64_t nessflurry_raw_action(const uint8_t *file, size_t file_size, uint8_t state, uint16_t lamps);
 NESSFLURRY_NODISCARD
 uint64_t nessflurry_raw_report(const uint8_t *file, size_t file_size, uint8_t state, uint16_t lamps, uint8_t result);
+NESSFLURRY_NODISCARD
+uint64_t nessflurry_raw_replay(const uint8_t *file, size_t file_size, const uint8_t *log, size_t log_size);
 
 /* For the functions below: the bytes, or some other pointer that is not NULL where there are none. */
 static inline const uint8_t *nessflurry_not_null(const uint8_t *bytes, size_t size)
@@ -287,6 +297,20 @@ static inline uint64_t nessflurry_report(const uint8_t *file, size_t file_size, 
                                          uint8_t result)
 {
     return nessflurry_raw_report(nessflurry_not_null(file, file_size), file_size, state, lamps, result);
+}
+
+/*
+ * Says whether a cabinet that runs this plan can have written a log. A log has log_size bytes: for each step, from the plan's first
+ * on, its action and the result that was sensed. It need not go on to the plan's end, and a plan that circles may go on circling.
+ *
+ * NESSFLURRY_POSSIBLE: some start and some line, of any length, give it. NESSFLURRY_IMPOSSIBLE: none does. Entries are counted from
+ * 0, and the one at place_of is the first with which it is so: the entries before it are possible, those up to and with it are not.
+ * Refusals 1 to 11, 20, 21; for 21 the whole log is read, whatever its first entries are.
+ */
+NESSFLURRY_NODISCARD
+static inline uint64_t nessflurry_replay(const uint8_t *file, size_t file_size, const uint8_t *log, size_t log_size)
+{
+    return nessflurry_raw_replay(nessflurry_not_null(file, file_size), file_size, nessflurry_not_null(log, log_size), log_size);
 }
 
 #ifdef __cplusplus

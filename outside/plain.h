@@ -1,6 +1,6 @@
 /*
- * The operations of document 01, once more and plainly. Each function takes and answers what its namesake in nessflurry.h does:
- * the codes, the layout of the answers and what each field holds are described there.
+ * The operations of documents 01 and 02, once more and plainly. Each function takes and answers what its namesake in
+ * nessflurry.h does: the codes, the layout of the answers and what each field holds are described there.
  */
 #ifndef PLAIN_H
 #define PLAIN_H
@@ -13,6 +13,7 @@ uint64_t plain_run(const uint8_t *file, size_t file_size, uint8_t start, const u
 uint64_t plain_begin(const uint8_t *file, size_t file_size, uint16_t lamps);
 uint64_t plain_action(const uint8_t *file, size_t file_size, uint8_t state, uint16_t lamps);
 uint64_t plain_report(const uint8_t *file, size_t file_size, uint8_t state, uint16_t lamps, uint8_t result);
+uint64_t plain_replay(const uint8_t *file, size_t file_size, const uint8_t *log, size_t log_size);
 
 /* The check, in two forms that answer the same: one walks each time, the other remembers what walks came to. */
 typedef uint64_t check_call(const uint8_t *file, size_t file_size, uint8_t *line, size_t line_size, uint32_t *list,

@@ -12,8 +12,6 @@
 /* The search is compiled into each form anew, and with it how a fate is found, so that neither form pays for the other. */
 #define EACH_FORM static inline __attribute__((always_inline))
 
-enum { MOST_COLUMNS = 16, MOST_STATES = 64, MOST_WORLDS = 64 }; /* of C + 1, S and W (01, Job file) */
-
 /* ---- Pairs as numbers ---- */
 
 /* In 13 bits. */

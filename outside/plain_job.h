@@ -16,6 +16,8 @@ enum {
     END_COLUMN = 0 /* the column at the end of the line (01, The line and its tables) */
 };
 
+enum { MOST_COLUMNS = 16, MOST_STATES = 64, MOST_WORLDS = 64 }; /* of C + 1, S and W (01, Job file) */
+
 /* Two types, so that the compiler refuses the one where the other is due (01, The line and its tables). */
 typedef struct { unsigned number; } program_state;
 typedef struct { unsigned number; } world_state;
@@ -72,7 +74,7 @@ unsigned read_job(const uint8_t *file, size_t file_size, struct job *job);
 /* ---- One action, and the walk at one lamp or at the line's end (01, One run) ---- */
 
 /* What an action comes to: failure 1 or 2; or a step to a pair, which moves on and arrives, or STAYS. */
-enum { STAYS = 8 }; /* none of the codes of nessflurry.h */
+enum { STAYS = 9 }; /* none of the codes of nessflurry.h */
 struct outcome {
     unsigned code;
     struct pair pair;

@@ -19,12 +19,13 @@ struct side {
     uint64_t (*begin)(const uint8_t *file, size_t file_size, uint16_t lamps);
     uint64_t (*action)(const uint8_t *file, size_t file_size, uint8_t state, uint16_t lamps);
     uint64_t (*report)(const uint8_t *file, size_t file_size, uint8_t state, uint16_t lamps, uint8_t result);
+    uint64_t (*replay)(const uint8_t *file, size_t file_size, const uint8_t *log, size_t log_size);
 };
 
 static const struct side sides[SIDES] = {
     {"nessflurry", nessflurry_read, nessflurry_walk, nessflurry_run, nessflurry_check, nessflurry_begin, nessflurry_action,
-     nessflurry_report},
-    {"plain", plain_read, plain_walk, plain_run, plain_check, plain_begin, plain_action, plain_report},
+     nessflurry_report, nessflurry_replay},
+    {"plain", plain_read, plain_walk, plain_run, plain_check, plain_begin, plain_action, plain_report, plain_replay},
 };
 
 #endif

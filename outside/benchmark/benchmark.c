@@ -1,6 +1,6 @@
 /*
- * The benchmark: nanoseconds a call of reader, run and report on both sides; of the check on three, since in C it is made in
- * two ways; and how the check's time grows with the numbers of a job. The answers of all sides are compared.
+ * The benchmark: nanoseconds a call of reader, run, report and replay on both sides; of the check on three, since in C it is
+ * made in two ways; and how the check's time grows with the numbers of a job. The answers of all sides are compared.
  */
 #include "tables.h"
 

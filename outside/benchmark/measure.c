@@ -41,6 +41,12 @@ uint64_t call_report(int side, const struct subject *subject)
     return sides[side].report(subject->file.bytes, subject->file.size, subject->job.first, RUN_LAMPS, subject->result);
 }
 
+uint64_t call_replay(int side, const struct subject *subject)
+{
+    const struct file *file = &subject->file;
+    return sides[side].replay(file->bytes, file->size, subject->log.bytes, subject->log.size);
+}
+
 /* ---- Measuring ---- */
 
 /* Of this process alone, so that others on the machine count less. */
@@ -107,6 +113,8 @@ void print_answer(side_call *call, const struct subject *subject, uint64_t answe
         printf("  accepted, %" PRIu32 " pairs\n", nessflurry_pairs_of(answer));
     else if (call == call_check)
         printf("  %s after %d lamps\n", endings[code], nessflurry_lamps_of(answer));
+    else if (call == call_replay)
+        printf("  %zu entries, %s\n", entries_of(&subject->log), code == NESSFLURRY_POSSIBLE ? "possible" : "impossible");
     else
         printf("  %zu bytes\n", subject->file.size);
     fflush(stdout);

@@ -1,5 +1,5 @@
 /*
- * Reader, run and report beside their plain namesakes.
+ * Reader, run, report and replay beside their plain namesakes.
  */
 #include "measure.h"
 #include "tables.h"
@@ -11,9 +11,14 @@ static void print_measured(const char *operation, side_call *call, const struct 
     double best[SIDES];
     uint64_t answer = measure(call, subject, SIDES, best);
     double ratio = best[NESSFLURRY] / best[PLAIN];
-    printf("%-10s%-18s%14.0f%14.0f%9.3f", operation, subject->name, best[NESSFLURRY], best[PLAIN], ratio);
+    printf("%-10s%-20s%14.0f%14.0f%9.3f", operation, subject->name, best[NESSFLURRY], best[PLAIN], ratio);
     print_answer(call, subject, answer);
     note(worst, ratio, subject);
+}
+
+static void print_worst(const char *operation, const struct greatest *worst)
+{
+    printf("%-10sworst ratio %.3f (%s)\n", operation, worst->figure, worst->name);
 }
 
 static void print_operation(const char *operation, side_call *call)
@@ -27,14 +32,38 @@ static void print_operation(const char *operation, side_call *call)
         sized_subject(&subject, large[i], FULL);
         print_measured(operation, call, &subject, &worst);
     }
-    printf("%-10sworst ratio %.3f (%s)\n", operation, worst.figure, worst.name);
+    print_worst(operation, &worst);
+}
+
+static void print_replay(struct subject *subject, size_t most_entries, struct greatest *worst)
+{
+    take_log(subject, most_entries);
+    print_measured("replay", call_replay, subject, worst);
+}
+
+/* Of a short log, and of the longest that each job has. The last two leave the most to be kept, which is the worst case. */
+static void print_replays(void)
+{
+    enum { FEW_ENTRIES = 8 };
+    const enum sized_job large[] = {JOB_ACCEPTED, JOB_LONG_FAILURE, JOB_WALK, JOB_WORK, JOB_UNTOLD_STAYING, JOB_UNTOLD_MOVING};
+    static struct subject subject;
+    struct greatest worst = {0};
+    bench_subject(&subject, "bench_g", BENCH_G);
+    print_replay(&subject, FEW_ENTRIES, &worst);
+    print_replay(&subject, MOST_ENTRIES, &worst);
+    for (size_t i = 0; i < sizeof large / sizeof *large; i++) {
+        sized_subject(&subject, large[i], FULL);
+        print_replay(&subject, MOST_ENTRIES, &worst);
+    }
+    print_worst("replay", &worst);
 }
 
 void print_operations(void)
 {
-    printf("\nreader, run and report; the ratio is nessflurry / plain\n\n");
-    printf("%-10s%-18s%14s%14s%9s\n", "operation", "job", "nessflurry", "plain", "ratio");
+    printf("\nreader, run, report and replay; the ratio is nessflurry / plain\n\n");
+    printf("%-10s%-20s%14s%14s%9s\n", "operation", "job", "nessflurry", "plain", "ratio");
     print_operation("reader", call_reader);
     print_operation("run", call_run);
     print_operation("report", call_report);
+    print_replays();
 }

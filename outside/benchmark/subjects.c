@@ -4,11 +4,14 @@
 
 #include <stdio.h>
 
-/* A kind with which the plan passes the lamp into a state that is not final, or 0. Each lamp begins at another kind. */
-static uint8_t kind_that_leads_on(const struct subject *subject, uint8_t *state, uint8_t *world)
+/*
+ * A kind with which the plan passes this lamp of a line into a state that is not final, or 0; state and world become those of
+ * its arrival. Each lamp begins at another kind.
+ */
+static uint8_t kind_that_leads_on(const struct subject *subject, size_t lamp, uint8_t *state, uint8_t *world)
 {
     for (size_t tries = 0; tries < subject->job.kinds; tries++) {
-        uint8_t kind = (uint8_t)(1 + (subject->lamps + tries) % subject->job.kinds);
+        uint8_t kind = (uint8_t)(1 + (lamp + tries) % subject->job.kinds);
         uint64_t answer = plain_walk(subject->file.bytes, subject->file.size, *state, *world, kind);
         if (nessflurry_code_of(answer) == NESSFLURRY_ARRIVED && nessflurry_state_of(answer) != subject->job.states) {
             *state = nessflurry_state_of(answer);
@@ -24,8 +27,27 @@ static void choose_line(struct subject *subject)
 {
     uint8_t state = subject->job.first, world = subject->start, kind;
     subject->lamps = 0;
-    while (subject->lamps < RUN_LAMPS && (kind = kind_that_leads_on(subject, &state, &world)) != 0)
+    while (subject->lamps < RUN_LAMPS && (kind = kind_that_leads_on(subject, subject->lamps, &state, &world)) != 0)
         subject->line[subject->lamps++] = kind;
+}
+
+/* The kind of the lamp that an execution comes to next. Where none leads on, the plan may circle, so that any will do. */
+static uint8_t next_kind(const struct subject *subject, const struct execution *at)
+{
+    uint8_t state = at->state, world = at->world, kind = kind_that_leads_on(subject, at->passed, &state, &world);
+    return kind != 0 ? kind : 1;
+}
+
+void take_log(struct subject *subject, size_t most)
+{
+    static uint8_t line[MOST_ENTRIES];
+    struct execution at = begun(&subject->job, subject->start, line, 0);
+    for (subject->log.size = 0; entries_of(&subject->log) < most; add_steps(&subject->log, &at, 1)) {
+        if (at.passed == at.lamps)
+            line[at.lamps++] = next_kind(subject, &at);
+        if (!goes_on(&at))
+            return;
+    }
 }
 
 static void finish_subject(struct subject *subject)
@@ -37,6 +59,7 @@ static void finish_subject(struct subject *subject)
     for (subject->result = 0; subject->job.target[subject->job.first][subject->result] == NONE;)
         subject->result++;
     choose_line(subject);
+    subject->log.size = 0;
 }
 
 void bench_subject(struct subject *subject, const char *name, enum bench_variant variant)

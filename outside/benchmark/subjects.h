@@ -5,6 +5,7 @@
 #define OUTSIDE_SUBJECTS_H
 
 #include "job_files/families.h"
+#include "job_files/logs.h"
 
 enum { RUN_LAMPS = 1000, NAME_BYTES = 40 };
 
@@ -14,9 +15,10 @@ struct subject {
     struct file file;
     uint8_t start, line[RUN_LAMPS], result;
     size_t lamps;
+    struct log log;
 };
 
-/* Each makes the subject anew. */
+/* Each makes the subject anew, with an empty log. */
 void bench_subject(struct subject *subject, const char *name, enum bench_variant variant);
 void example_subject(struct subject *subject);
 void sized_subject(struct subject *subject, enum sized_job which, enum size size);
@@ -26,5 +28,8 @@ void steps_subject(struct subject *subject);
 enum growing { LONG_WALKS, MANY_PAIRS, GROWING };
 extern const char *const growing_names[GROWING];
 void growing_subject(struct subject *subject, enum growing growing, uint8_t worlds, uint8_t states, uint8_t kinds);
+
+/* Makes its log anew: an execution that goes on as far as it can, with this number of entries at most. */
+void take_log(struct subject *subject, size_t most);
 
 #endif

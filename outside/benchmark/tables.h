@@ -4,7 +4,7 @@
 #ifndef OUTSIDE_TABLES_H
 #define OUTSIDE_TABLES_H
 
-/* Reader, run and report. */
+/* Reader, run, report and replay. */
 void print_operations(void);
 
 /* The check, and how its time grows. */

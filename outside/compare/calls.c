@@ -6,7 +6,7 @@
 #include "tally.h"
 
 static struct {
-    struct lent file, head, line, list, words;
+    struct lent file, head, line, list, words, log;
 } lent[SIDES];
 
 /* The file as it is lent to each side, and its size. */
@@ -24,6 +24,7 @@ void open_rooms(void)
         open_room(&lent[i].line, NESSFLURRY_MAX_LAMPS + 1);
         open_room(&lent[i].list, (NESSFLURRY_LIST_SIZE + ROOM_BEYOND) * sizeof(uint32_t));
         open_room(&lent[i].words, (NESSFLURRY_WORDS_SIZE + ROOM_BEYOND) * sizeof(uint64_t));
+        open_room(&lent[i].log, NESSFLURRY_MAX_LOG_SIZE + 2);
     }
 }
 
@@ -122,6 +123,18 @@ uint64_t compare_run(uint8_t start, const uint8_t *line, size_t lamps, uint32_t 
         const uint8_t *lamp_kinds = lend_or_null(&lent[i].line, LINE, line, lamps);
         answers[i] = sides[i].run(bytes[i], size, start, lamp_kinds, lamps, limit);
         demand(memcmp(lent[i].line.at, line, lamps) == 0 && guard_holds(&lent[i].line), "the line as it was");
+    }
+    return settle(answers);
+}
+
+uint64_t compare_replay(const uint8_t *log, size_t log_size)
+{
+    uint64_t answers[SIDES];
+    place_call(REPLAY, log_size, 0, 0);
+    for (int i = 0; i < SIDES; i++) {
+        const uint8_t *entries = lend_or_null(&lent[i].log, LOG, log, log_size);
+        answers[i] = sides[i].replay(bytes[i], size, entries, log_size);
+        demand(memcmp(lent[i].log.at, log, log_size) == 0 && guard_holds(&lent[i].log), "the log as it was");
     }
     return settle(answers);
 }

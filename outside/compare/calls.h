@@ -19,6 +19,7 @@ uint64_t compare_run(uint8_t start, const uint8_t *line, size_t lamps, uint32_t 
 uint64_t compare_begin(uint16_t lamps);
 uint64_t compare_action(uint8_t state, uint16_t lamps);
 uint64_t compare_report(uint8_t state, uint16_t lamps, uint8_t result);
+uint64_t compare_replay(const uint8_t *log, size_t log_size);
 
 /*
  * The check, with random content in the buffers before. Each is at most ROOM_BEYOND elements larger than is enough for every

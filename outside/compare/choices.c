@@ -23,13 +23,15 @@ static size_t choose_lamps(struct random *random)
     }
 }
 
+/* The count itself, or any number above it. */
+static uint8_t not_below(struct random *random, uint8_t count)
+{
+    return one_in(random, 2) ? count : (uint8_t)(count + below(random, 256u - count));
+}
+
 static uint8_t no_kind(const struct job *job, struct random *random)
 {
-    switch (below(random, 3)) {
-    case 0: return 0;
-    case 1: return job->kinds + 1;
-    default: return (uint8_t)(job->kinds + 1 + below(random, 255u - job->kinds));
-    }
+    return one_in(random, 3) ? 0 : not_below(random, job->kinds + 1);
 }
 
 size_t choose_line(const struct job *job, struct random *random, uint8_t line[NESSFLURRY_MAX_LAMPS + 1])
@@ -41,6 +43,35 @@ size_t choose_line(const struct job *job, struct random *random, uint8_t line[NE
         *lamp = no_kind(job, random);
     }
     return lamps;
+}
+
+static size_t choose_entries(struct random *random)
+{
+    switch (below(random, 100)) {
+    case 0: return below(random, MOST_ENTRIES + 1);
+    case 1: return MOST_ENTRIES + below(random, 2);
+    default: return below(random, 13);
+    }
+}
+
+void spoil_log(const struct job *job, struct random *random, struct log *log)
+{
+    uint32_t at = below(random, (uint32_t)log->size);
+    log->bytes[at] = not_below(random, at % 2 == 0 ? job->actions : job->results);
+}
+
+void choose_log(const struct job *job, struct random *random, struct log *log)
+{
+    size_t entries = choose_entries(random);
+    log->size = 0;
+    if (one_in(random, 2))
+        add_plan_entries(log, job, random, entries);
+    while (entries_of(log) < entries)
+        add_any_entry(log, job, random);
+    if (log->size > 0 && one_in(random, 12))
+        spoil_log(job, random, log);
+    if (log->size > 0 && one_in(random, 12))
+        log->size--;
 }
 
 struct sizes enough_or_more(const struct job *job, struct random *random)

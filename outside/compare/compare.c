@@ -21,7 +21,7 @@
 #include <stdlib.h>
 #include <unistd.h>
 
-enum { PATIENCE_SECONDS = 60 };
+enum { PATIENCE_SECONDS = 60, LONG_LOG_RARITY = 40 };
 
 static void try_sound(struct trial *trial)
 {
@@ -35,6 +35,10 @@ static void try_sound(struct trial *trial)
         try_cabinet_calls(trial);
         lead_cabinet(trial, accepted);
     }
+    try_logs(trial);
+    /* On bench line G's variants and the largest jobs, and on some of the random ones. */
+    if (place.number < FIRST_RANDOM || one_in(&trial->random, LONG_LOG_RARITY))
+        try_longest_log(trial);
 }
 
 static struct trial *take_trial(uint32_t number)

@@ -6,7 +6,7 @@
 #include <stdio.h>
 #include <stdlib.h>
 
-enum { REFUSALS = 20, CODES = 8 };
+enum { REFUSALS = 22, CODES = 9 };
 
 /* The numbers from one to another, as bits. */
 #define NUMBERS(from, to) ((2u << (to)) - (1u << (from)))
@@ -35,6 +35,10 @@ static const struct {
                 {[NESSFLURRY_ACTION] = "action", [NESSFLURRY_ENDED] = "ended"},
                 NUMBERS(1, 11) | NUMBERS(16, 16)},
     [REPORT] = {"report", {"state", "lamps", "result"}, {"taken"}, NUMBERS(1, 11) | NUMBERS(16, 19)},
+    [REPLAY] = {"replay",
+                {"log bytes"},
+                {[NESSFLURRY_POSSIBLE] = "possible", [NESSFLURRY_IMPOSSIBLE] = "impossible"},
+                NUMBERS(1, 11) | NUMBERS(20, 21)},
 };
 
 struct place place;
@@ -44,9 +48,9 @@ static struct {
 } counts[OPERATIONS];
 
 static uint64_t compared, differing;
-static uint32_t most_pairs, longest_failing_line;
+static uint32_t most_pairs, longest_failing_line, most_possible_bytes, furthest_place;
 
-static const char *const lendable_names[LENDABLE] = {"file", "line", "line buffer", "list", "words"};
+static const char *const lendable_names[LENDABLE] = {"file", "line", "line buffer", "list", "words", "log"};
 static uint64_t nulls[LENDABLE];
 
 void count_null(enum lendable what) { nulls[what]++; }
@@ -94,13 +98,23 @@ void demand_equal(uint64_t nessflurry, uint64_t plain)
     demand(false, demanded);
 }
 
-static void note_extremes(uint64_t answer)
+static void note_most(uint32_t *most, uint32_t count)
 {
-    bool accepted = nessflurry_code_of(answer) == NESSFLURRY_ACCEPTED;
-    uint32_t *most = accepted ? &most_pairs : &longest_failing_line;
-    uint32_t count = accepted ? nessflurry_pairs_of(answer) : nessflurry_lamps_of(answer);
     if (count > *most)
         *most = count;
+}
+
+static void note_extremes(enum operation operation, uint64_t answer)
+{
+    uint8_t code = nessflurry_code_of(answer);
+    if (operation == CHECK && code == NESSFLURRY_ACCEPTED)
+        note_most(&most_pairs, nessflurry_pairs_of(answer));
+    else if (operation == CHECK)
+        note_most(&longest_failing_line, nessflurry_lamps_of(answer));
+    else if (operation == REPLAY && code == NESSFLURRY_POSSIBLE)
+        note_most(&most_possible_bytes, (uint32_t)place.arguments[0]);
+    else if (operation == REPLAY)
+        note_most(&furthest_place, nessflurry_place_of(answer));
 }
 
 /* Beside refusal and code a refused report has a state and lamps, and nothing else has anything. */
@@ -127,8 +141,7 @@ void count_answer(enum operation operation, uint64_t answer)
     demand(has, "a code that the operation has");
     demand(nessflurry_refusal_of(answer) == 0, "no refusal beside another code");
     counts[operation].answered[has ? code : 0]++;
-    if (operation == CHECK)
-        note_extremes(answer);
+    note_extremes(operation, answer);
 }
 
 static void print_operation(enum operation operation)
@@ -152,6 +165,8 @@ void print_tally(void)
     for (enum lendable what = JOB_FILE; what < LENDABLE; what++)
         printf("%s %s %" PRIu64, what == JOB_FILE ? "" : ",", lendable_names[what], nulls[what]);
     printf("\nmost pairs reached %" PRIu32 ", longest failing line %" PRIu32 " lamps\n", most_pairs, longest_failing_line);
+    printf("longest possible log %" PRIu32 " bytes, furthest place of an impossible one %" PRIu32 "\n", most_possible_bytes,
+           furthest_place);
 }
 
 static bool seen(enum operation operation)
@@ -170,9 +185,17 @@ static bool seen(enum operation operation)
     return all;
 }
 
+static bool longest_log_seen(void)
+{
+    if (most_possible_bytes == NESSFLURRY_MAX_LOG_SIZE)
+        return true;
+    printf("never seen: a possible log of %d bytes\n", NESSFLURRY_MAX_LOG_SIZE);
+    return false;
+}
+
 bool all_seen(void)
 {
-    bool all = true;
+    bool all = longest_log_seen();
     for (enum operation operation = READ; operation < OPERATIONS; operation++)
         all = seen(operation) && all;
     for (enum lendable what = JOB_FILE; what < LENDABLE; what++)

@@ -6,7 +6,7 @@
 
 #include "job_files/job_files.h"
 
-enum operation { READ, WALK, RUN, CHECK, BEGIN, ACTION, REPORT, OPERATIONS };
+enum operation { READ, WALK, RUN, CHECK, BEGIN, ACTION, REPORT, REPLAY, OPERATIONS };
 
 /* Where the test is: told with the first difference, so that it can be seen again. */
 struct place {
@@ -21,7 +21,7 @@ extern struct place place;
 void count_answer(enum operation operation, uint64_t answer);
 
 /* Counts something that is lent as NULL, because it is empty. */
-enum lendable { JOB_FILE, LINE, LINE_BUFFER, WORKING_LIST, WORKING_WORDS, LENDABLE };
+enum lendable { JOB_FILE, LINE, LINE_BUFFER, WORKING_LIST, WORKING_WORDS, LOG, LENDABLE };
 void count_null(enum lendable what);
 
 /* Counts a difference, and tells of the first: what was demanded, and what the sides answered. */
@@ -30,7 +30,10 @@ void demand_equal(uint64_t nessflurry, uint64_t plain);
 
 void print_tally(void);
 
-/* Whether every answer and every refusal of every operation, and each thing as NULL, have been seen; names what has not. */
+/*
+ * Whether every answer and every refusal of every operation, each thing as NULL and a possible log of the greatest length have
+ * been seen; names what has not.
+ */
 bool all_seen(void);
 
 uint64_t differences(void);

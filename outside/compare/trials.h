@@ -42,4 +42,8 @@ size_t try_check_alone(struct trial *trial);
 /* A cabinet that is led along a line. */
 void lead_cabinet(struct trial *trial, bool accepted);
 
+/* Logs, most of them with a few entries; and one with as many as there may be, if the plan goes on for so long. */
+void try_logs(struct trial *trial);
+void try_longest_log(struct trial *trial);
+
 #endif

@@ -3,19 +3,10 @@
  * and has to take the states of the execution.
  */
 #include "choices.h"
+#include "job_files/execution.h"
 #include "nessflurry.h"
 #include "tally.h"
 #include "trials.h"
-
-/* An execution over the tables, at some point: program state, world state and lamps passed. */
-struct execution {
-    const struct job *job;
-    const uint8_t *line;
-    size_t lamps, passed;
-    uint8_t state, world;
-};
-
-static uint8_t column(const struct execution *at) { return at->passed < at->lamps ? at->line[at->passed] : 0; }
 
 static uint16_t lamps_left(const struct execution *at) { return (uint16_t)(at->lamps - at->passed); }
 
@@ -24,37 +15,22 @@ static bool is_at(const struct execution *at, uint64_t cabinet)
     return nessflurry_state_of(cabinet) == at->state && nessflurry_lamps_of(cabinet) == lamps_left(at);
 }
 
-/* The result of the action that is due, or NONE where there is none: in state S, and where the action is not legal. */
-static uint8_t due_result(const struct execution *at)
-{
-    return at->state == at->job->states ? NONE : at->job->cells[at->job->action[at->state]][at->world][column(at)].result;
-}
-
-/* The step that has this result. */
-static void step(struct execution *at, uint8_t result)
-{
-    uint8_t action = at->job->action[at->state];
-    at->world = at->job->cells[action][at->world][column(at)].next;
-    at->state = at->job->target[at->state][result];
-    at->passed += at->job->marks[action];
-}
-
 /* The refusal that a report of the result meets here, or 0. */
 static uint8_t report_refusal(const struct execution *at, uint8_t result)
 {
-    if (at->state == at->job->states)
+    if (ended(at))
         return NESSFLURRY_REFUSED_AFTER_END;
     if (result >= at->job->results || at->job->target[at->state][result] == NONE)
         return NESSFLURRY_REFUSED_RESULT;
-    return at->job->marks[at->job->action[at->state]] && lamps_left(at) == 0 ? NESSFLURRY_REFUSED_NO_LAMP : 0;
+    return at->job->marks[due_action(at)] && lamps_left(at) == 0 ? NESSFLURRY_REFUSED_NO_LAMP : 0;
 }
 
 static void expect_action(const struct execution *at)
 {
     uint64_t answer = compare_action(at->state, lamps_left(at));
-    bool ended = at->state == at->job->states;
-    demand(nessflurry_code_of(answer) == (ended ? NESSFLURRY_ENDED : NESSFLURRY_ACTION), "ended in state S, and not before");
-    demand(ended || nessflurry_action_of(answer) == at->job->action[at->state], "the action of the execution's next step");
+    uint8_t code = ended(at) ? NESSFLURRY_ENDED : NESSFLURRY_ACTION;
+    demand(nessflurry_code_of(answer) == code, "ended in state S, and not before");
+    demand(ended(at) || nessflurry_action_of(answer) == due_action(at), "the action of the execution's next step");
 }
 
 static void expect_refused(const struct execution *at, uint8_t result)
@@ -90,7 +66,7 @@ static bool lead(struct execution *at, struct random *random, int most_steps)
             return true;
         }
         cabinet = compare_report(at->state, lamps_left(at), result);
-        step(at, result);
+        take_step(at);
     }
     return false;
 }
@@ -101,8 +77,8 @@ void lead_cabinet(struct trial *trial, bool accepted)
     static uint8_t line[100];
     const struct job *job = &trial->job;
     size_t lamps = below(&trial->random, one_in(&trial->random, 10) ? sizeof line + 1 : 10);
-    struct execution at = {job, line, lamps, 0, job->first, marked_start(job, &trial->random)};
+    struct execution at = begun(job, marked_start(job, &trial->random), line, lamps);
     choose_kinds(job, &trial->random, line, lamps);
     if (lead(&at, &trial->random, MOST_STEPS) && accepted)
-        demand(at.state == job->states && job->goal[at.world][column(&at)], "state S with the goal true, after an accepted plan");
+        demand(ended(&at) && job->goal[at.world][column(&at)], "state S with the goal true, after an accepted plan");
 }

@@ -65,6 +65,13 @@ static void try_any_check(struct trial *trial)
     expect_due(trial, compare_check(sizes, failing_line, &trial->random));
 }
 
+static void try_any_replay(struct trial *trial)
+{
+    static struct log log;
+    choose_log(&trial->job, &trial->random, &log);
+    expect_due(trial, compare_replay(log.bytes, log.size));
+}
+
 void try_file(struct trial *trial)
 {
     expect_due(trial, compare_read(&trial->random));
@@ -72,4 +79,5 @@ void try_file(struct trial *trial)
     try_any_run(trial);
     try_any_check(trial);
     try_cabinet_calls(trial);
+    try_any_replay(trial);
 }

@@ -23,13 +23,20 @@ void counting_job(struct job *job, uint8_t last);
  */
 void turning_job(struct job *job, uint8_t movers, uint32_t turning);
 
+/*
+ * A job whose logs tell little of worlds and columns, so that a replay has to keep nearly all of them at every entry. Its plan
+ * never ends: it circles in every column or, if it moves on, comes to the end of the line, where no action is legal. Its
+ * numbers are set before: R is 2 or more, S 1 or more.
+ */
+void untold_job(struct job *job, bool moves_on);
+
 /* A right plan over random tables, with no start marked yet. Its numbers are set before: A, R and S are 2 or more. */
 void right_job(struct job *job, struct random *random);
 
 /* Every number at its largest. */
 void largest_numbers(struct job *job);
 
-/* Jobs by what a check of them costs, in three sizes; full is the largest numbers. */
+/* Jobs by what a check or a replay of them costs, in three sizes; full is the largest numbers. */
 enum size { SMALL, MIDDLE, FULL, SIZES };
 enum sized_job {
     JOB_ACCEPTED,       /* accepted, with as many pairs as a plan of this size can reach, and short walks */
@@ -41,6 +48,8 @@ enum sized_job {
     JOB_CIRCLE,         /* fails there too, by circling through nearly all pairs */
     JOB_RANDOM,         /* accepted, over random tables */
     JOB_RANDOM_FAILURE, /* the same with the goal false in one world */
+    JOB_UNTOLD_STAYING, /* circles everywhere; a replay keeps every world and column */
+    JOB_UNTOLD_MOVING,  /* fails on the empty line; a replay keeps nearly all worlds, in every column */
     SIZED_JOBS
 };
 extern const char *const size_names[SIZES], *const sized_job_names[SIZED_JOBS];

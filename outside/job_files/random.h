@@ -25,6 +25,12 @@ static inline uint64_t random_word(struct random *random)
 /* A number below n, which is not 0. */
 static inline uint32_t below(struct random *random, uint32_t n) { return (uint32_t)(((random_word(random) >> 32) * n) >> 32); }
 
+/* Another number below n, which is not 1, than this one. */
+static inline uint32_t another_below(struct random *random, uint32_t n, uint32_t number)
+{
+    return (number + 1 + below(random, n - 1)) % n;
+}
+
 static inline bool one_in(struct random *random, uint32_t n) { return below(random, n) == 0; }
 
 static inline void random_bytes(struct random *random, void *to, size_t size)

@@ -1,5 +1,5 @@
 /*
- * Jobs by what a check of them costs, in three sizes.
+ * Jobs by what a check or a replay of them costs, in three sizes.
  */
 #include "families.h"
 
@@ -14,6 +14,7 @@ void largest_numbers(struct job *job) { set_numbers(job, numbers_of[FULL]); }
 const char *const size_names[SIZES] = {"small", "middle", "max"};
 const char *const sized_job_names[SIZED_JOBS] = {
     "accepted", "long_failure", "walk", "work", "at_once", "first_lamp", "circle", "random", "random_failure",
+    "untold_staying", "untold_moving",
 };
 
 /* From seeds with which many pairs are reached, and the failure is not met at once. */
@@ -36,6 +37,8 @@ static void make_tables(struct job *job, enum sized_job which, enum size size)
     case JOB_WORK: turning_job(job, movers, upper_turn); break;
     case JOB_RANDOM:
     case JOB_RANDOM_FAILURE: random_tables(job, size); break;
+    case JOB_UNTOLD_STAYING:
+    case JOB_UNTOLD_MOVING: untold_job(job, which == JOB_UNTOLD_MOVING); break;
     default: turning_job(job, movers, none_turn); break;
     }
 }

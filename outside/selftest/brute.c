@@ -4,25 +4,30 @@
  */
 #include "brute.h"
 #include "cases.h"
+#include "job_files/execution.h"
 
-/* An execution on its way: where it is, and what it met since it came to this lamp or to the line's end. */
-struct execution {
-    unsigned state, world;
-    size_t passed;
+/* An execution on its way, and what it met since it came to this lamp or to the line's end. */
+struct followed {
+    struct execution at;
     uint32_t steps, steps_on_arrival;
     bool met_here[BRUTE_PAIRS];
 };
 
-static void arrive(struct execution *now, bool reached[BRUTE_PAIRS])
+static unsigned pair_of(const struct followed *now)
 {
-    reached[now->state * job.worlds + now->world] = true;
+    return now->at.state * job.worlds + now->at.world;
+}
+
+static void arrive(struct followed *now, bool reached[BRUTE_PAIRS])
+{
+    reached[pair_of(now)] = true;
     now->steps_on_arrival = now->steps;
     memset(now->met_here, 0, sizeof(bool) * job.states * job.worlds);
 }
 
-static bool met_before(struct execution *now)
+static bool met_before(struct followed *now)
 {
-    bool *const met = &now->met_here[now->state * job.worlds + now->world];
+    bool *const met = &now->met_here[pair_of(now)];
     const bool before = *met;
     *met = true;
     return before;
@@ -34,37 +39,28 @@ static bool met_before(struct execution *now)
  */
 uint64_t brute_run(uint8_t start, const uint8_t *line, size_t lamps, bool reached[BRUTE_PAIRS])
 {
-    struct execution now;
-    now.state = job.first;
-    now.world = start;
-    now.passed = 0;
+    struct followed now;
+    now.at = begun(&job, start, line, lamps);
     now.steps = 0;
     arrive(&now, reached);
     for (;;) {
-        const unsigned column = now.passed < lamps ? line[now.passed] : 0;
-        if (now.state == job.states)
-            return ending(job.goal[now.world][column] == 1 ? NESSFLURRY_GOAL : NESSFLURRY_GOAL_FALSE, now.steps);
+        const size_t passed = now.at.passed;
+        if (ended(&now.at))
+            return ending(job.goal[now.at.world][column(&now.at)] == 1 ? NESSFLURRY_GOAL : NESSFLURRY_GOAL_FALSE, now.steps);
         if (met_before(&now))
             return ending(NESSFLURRY_CIRCLES, now.steps_on_arrival + job.states * job.worlds);
-        const uint8_t action = job.action[now.state];
-        const struct cell cell = job.cells[action][now.world][column];
-        if (cell.result == NONE)
+        if (due_result(&now.at) == NONE)
             return ending(NESSFLURRY_NOT_LEGAL, now.steps);
-        const uint8_t target = job.target[now.state][cell.result];
-        if (target == NONE)
+        if (!goes_on(&now.at))
             return ending(NESSFLURRY_NO_BRANCH, now.steps);
-        now.state = target;
-        now.world = cell.next;
+        take_step(&now.at);
         now.steps++;
-        if (job.marks[action] == 1) {
-            now.passed++;
+        if (now.at.passed > passed)
             arrive(&now, reached);
-        }
     }
 }
 
-/* The next line of as many lamps, the last lamp's kind changing first; false after the last such line. */
-static bool next_line(uint8_t line[], uint32_t lamps)
+bool next_line(uint8_t line[], uint32_t lamps)
 {
     for (uint32_t lamp = lamps; lamp > 0; lamp--) {
         if (line[lamp - 1] < job.kinds) {

@@ -17,6 +17,9 @@ enum { BRUTE_PAIRS = (MOST_STATES + 1) * MOST_WORLDS };
  */
 uint64_t brute_run(uint8_t start, const uint8_t *line, size_t lamps, bool reached[BRUTE_PAIRS]);
 
+/* The next line of as many lamps, the last lamp's kind changing first; false after the last such line. */
+bool next_line(uint8_t line[], uint32_t lamps);
+
 /*
  * The check says what the search over all lines of up to S·W + 1 lamps says, and each of these lines runs as its
  * execution does. Answers what the search says. The job is a small one, since all these lines are tried.

@@ -15,6 +15,17 @@ void expect(const char *what, uint64_t got, uint64_t wanted)
         printf("%s: %016" PRIx64 " instead of %016" PRIx64 "\n", what, got, wanted);
 }
 
+void print_row(const char *title, const unsigned *numbers, unsigned count)
+{
+    unsigned sum = 0;
+    printf("%-28s", title);
+    for (unsigned i = 0; i < count; i++) {
+        printf("%6u", numbers[i]);
+        sum += numbers[i];
+    }
+    printf("   sum %u\n", sum);
+}
+
 uint64_t ending(unsigned code, uint32_t count)
 {
     return (uint64_t)code << 8 | (uint64_t)count << 32;
@@ -118,4 +129,5 @@ void expect_refused_file(const char *what, unsigned refusal)
     expect(what, plain_begin(file.bytes, file.size, 3), refused(refusal));
     expect(what, plain_action(file.bytes, file.size, 255, 3), refused(refusal));
     expect(what, plain_report(file.bytes, file.size, 255, 3, 255), cabinet(refusal, 255, 3));
+    expect(what, plain_replay(file.bytes, file.size, (const uint8_t[]){255, 255, 255}, 3), refused(refusal));
 }

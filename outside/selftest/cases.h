@@ -11,9 +11,13 @@ void bench_cases(void);
 void refusal_cases(void);
 void long_line_cases(void);
 void form_cases(void);
+void replay_cases(void);
 
 /* Prints how many of its jobs were accepted, and how many failed in which way on how long a line. */
 void random_cases(void);
+
+/* Prints how many of its logs were possible, and how many impossible from which entry on. */
+void log_cases(void);
 
 /* ---- Comparing ---- */
 
@@ -30,6 +34,9 @@ uint64_t ending(unsigned code, uint32_t count);
 uint64_t failing(unsigned kind, unsigned start, uint32_t lamps);
 uint64_t refused(unsigned refusal);
 uint64_t cabinet(unsigned refusal, unsigned state, uint32_t lamps);
+
+/* Prints a row of counts and their sum. */
+void print_row(const char *title, const unsigned *numbers, unsigned count);
 
 /* ---- The job at hand ---- */
 

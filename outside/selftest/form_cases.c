@@ -20,6 +20,8 @@ static void sized_jobs(enum size size)
     expect("a failure on the empty line", check_sized(JOB_AT_ONCE, size), failing(NESSFLURRY_NOT_LEGAL, 0, 0));
     expect("a failure at the first lamp", check_sized(JOB_FIRST_LAMP, size), failing(NESSFLURRY_NOT_LEGAL, 0, 1));
     expect("a circle at the first lamp", check_sized(JOB_CIRCLE, size), failing(NESSFLURRY_CIRCLES, 0, 1));
+    expect("a circle at the line's end", check_sized(JOB_UNTOLD_STAYING, size), failing(NESSFLURRY_CIRCLES, 0, 0));
+    expect("moving on at the line's end", check_sized(JOB_UNTOLD_MOVING, size), failing(NESSFLURRY_NOT_LEGAL, 0, 0));
     expect("a failure over random tables", nessflurry_code_of(check_sized(JOB_RANDOM_FAILURE, size)), NESSFLURRY_GOAL_FALSE);
     expect("a long failing line", nessflurry_code_of(check_sized(JOB_LONG_FAILURE, size)), NESSFLURRY_GOAL_FALSE);
     const enum sized_job accepted[] = {JOB_ACCEPTED, JOB_WALK, JOB_WORK, JOB_RANDOM};

@@ -74,17 +74,6 @@ static void random_run(struct random *random)
     runs[nessflurry_code_of(wanted)]++;
 }
 
-static void print_row(const char *title, const unsigned *numbers, unsigned count)
-{
-    unsigned sum = 0;
-    printf("%-28s", title);
-    for (unsigned i = 0; i < count; i++) {
-        printf("%6u", numbers[i]);
-        sum += numbers[i];
-    }
-    printf("   sum %u\n", sum);
-}
-
 static void print_what_was_met(void)
 {
     printf("%d random jobs\n", RANDOM_JOBS);

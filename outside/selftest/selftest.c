@@ -9,8 +9,11 @@ int main(void)
     refusal_cases();
     long_line_cases();
     form_cases();
-    printf("bench line G, refusals, long lines, forms of the check: %u answers compared, %u differ\n", compared, differing);
+    replay_cases();
+    printf("bench line G, refusals, long lines, forms of the check, logs: %u answers compared, %u differ\n", compared,
+           differing);
     random_cases();
+    log_cases();
     printf("all: %u answers compared, %u differ\n", compared, differing);
     return differing != 0;
 }

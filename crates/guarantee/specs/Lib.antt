@@ -1,3 +1,4 @@
 pub mod CabinetPromises
 pub mod CheckPromises
+pub mod ReplayPromises
 pub mod RunPromises

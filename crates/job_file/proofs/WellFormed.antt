@@ -220,6 +220,10 @@ pub record Sound (s : List ℕ) (j : Job) : Type 0 where
   pub is-head : j ≡ head s
   pub laid : Laid s j
   pub well-formed : WellFormed (tablesOf s)
+  -- each cell's next world state is below W, whether the cell is legal or not
+  pub next-below :
+      (a : Action) (w : WorldState) (c : ℕ) → a < j .actions → w .0 < j .worlds → c < columns (j .kinds) →
+      byte s (nextPlace j a w c) < j .worlds
 
 -- This is known wherever the reader answered j.
 pub sound : (s : List ℕ) (j : Job) → Opened s j → Sound s j
@@ -230,6 +234,8 @@ sound s j opened =
       is-head = none .is-head;
       laid = placed;
       well-formed = subst (λ (h : Job). WellFormed (tablesBy s h)) (none .is-head) (tables-well-formed s j none placed);
+      next-below = λ a w c a< w< c<.
+          cell-next (j .worlds) (j .results) _ (byte s (resultPlace j a w c)) (cell-right s j none placed a w c a< w< c<);
     }
 
 -- The tables by the job that the reader answered are those of the file.

@@ -9,12 +9,24 @@ use lib.Dec.{eqb}
 use Rattle.plans.specs.Plan.{Action, Result}
 use Rattle.lamp_line.specs.declared.ProgramState.{ProgramState}
 use Rattle.lamp_line.specs.declared.WorldState.{WorldState}
-use Rattle.lamp_line.specs.Tables.{outcome, Tables, programState, worldState, movesOn, columns}
+use Rattle.lamp_line.specs.Tables.{Outcome, outcome, Tables, programState, worldState, movesOn, columns}
 use Rattle.job_layout.specs.declared.Job.{Job}
 use Rattle.job_layout.specs.Layout.{byte, markPlace, nextPlace, resultPlace, startPlace, goalPlace, actionPlace, targetPlace}
 use Rattle.job_layout.specs.JobTables.{outcomes, branch, tablesOf}
 use Rattle.job_file.specs.Reading.{Opened}
-use Rattle.job_file.proofs.WellFormed.{tables-are}
+use Rattle.job_file.proofs.WellFormed.{tables-are, sound}
+use Rattle.job_tables.specs.declared.CellBytes.{CellBytes}
+use Rattle.job_tables.specs.inner.Entries.{BytesOf}
+
+-- A cell with result 255 has no outcome.
+pub cell-not-legal : {cell : List Outcome} {worlds : ℕ} {bytes : CellBytes} → BytesOf cell worlds bytes → bytes .result ≡ 255 → [] ≡ cell
+cell-not-legal read is = sym (rw (eq-eqb _ _ is)) ∙ read .are
+
+-- Any other has the outcome of its two bytes.
+pub cell-legal :
+    {cell : List Outcome} {worlds : ℕ} {bytes : CellBytes} → BytesOf cell worlds bytes → ¬ (bytes .result ≡ 255) →
+    outcome (bytes .next) (bytes .result) ∷ [] ≡ cell
+cell-legal read other = sym (rw (ne-eqb _ _ other)) ∙ read .are
 
 module _ (s : List ℕ) {j : Job} (opened : Opened s j) {at : ℕ} where
   -- An action's mark.
@@ -30,13 +42,10 @@ module _ (s : List ℕ) {j : Job} (opened : Opened s j) {at : ℕ} where
         (subst (λ (t : Tables). outcomes (byte s (nextPlace j a w c)) (byte s (resultPlace j a w c)) ≡ t .cell a w c) (tables-are s j opened)
         (rw (lt-ltb _ _ a<, lt-ltb _ _ w<, lt-ltb _ _ c<)))
 
-    -- A cell with result 255 has no outcome.
-    pub cell-not-legal : byte s (at + 1) ≡ 255 → [] ≡ tablesOf s .cell a w c
-    cell-not-legal is = sym (rw (eq-eqb _ _ is)) ∙ cell-is
-
-    -- Any other has the outcome of its two bytes.
-    pub cell-legal : ¬ (byte s (at + 1) ≡ 255) → outcome (worldState (byte s at)) (byte s (at + 1)) ∷ [] ≡ tablesOf s .cell a w c
-    cell-legal other = sym (rw (ne-eqb _ _ other)) ∙ cell-is
+    -- A cell's two bytes.
+    pub bytes-are :
+        BytesOf (tablesOf s .cell a w c) (j .worlds) (record { next = worldState (byte s at); result = byte s (at + 1) })
+    bytes-are = record { are = cell-is; next-range = rw e (sound s j opened .next-below a w c a< w< c<) }
 
   -- The mark of a world state among the starts.
   pub start-is : (w : WorldState) → at ≡ startPlace j w → w .0 < j .worlds → eqb (byte s at) 1 ≡ tablesOf s .start w

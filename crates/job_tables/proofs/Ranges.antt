@@ -22,12 +22,16 @@ use Rattle.job_tables.specs.inner.Entries.{outcomesOf}
 pub laid-out : (s : List ℕ) (j : Job) → Opened s j → Laid s j
 laid-out s j opened = sound s j opened .laid
 
-first-in : (x : Outcome) → x ∈ (x ∷ [])
+-- The only outcome of a cell is one of its outcomes.
+pub first-in : (x : Outcome) → x ∈ (x ∷ [])
 unfolding _∈_
 first-in x = inl refl
 
 module _ (s : List ℕ) (j : Job) (opened : Opened s j) where
   -- The numbers of the tables are those of the job.
+  pub actions-are : j .actions ≡ tablesOf s .actions
+  actions-are = ap (λ (h : Job). h .actions) (sound s j opened .is-head)
+
   pub states-are : j .states ≡ tablesOf s .states
   states-are = ap (λ (h : Job). h .states) (sound s j opened .is-head)
 
@@ -52,9 +56,6 @@ module _ (s : List ℕ) (j : Job) (opened : Opened s j) where
   action-below q a q< e =
       rw e (subst (λ (n : ℕ). tablesOf s .action q < n) (sym actions-are)
       (well-formed .action-range q (subst (λ (n : ℕ). q .0 < n) states-are q<)))
-    where
-      actions-are : j .actions ≡ tablesOf s .actions
-      actions-are = ap (λ (h : Job). h .actions) (sound s j opened .is-head)
 
   -- The result of a legal cell is below R.
   pub result-below :

@@ -7,7 +7,7 @@ ghost use Prim.Native.Nat.{_<_};
 ghost use Rattle.lamp_line.specs.Tables.{movesOn, columns};
 ghost use Rattle.job_layout.specs.JobTables.{tablesOf};
 ghost use Rattle.job_file.specs.Reading.{Opened};
-ghost use Rattle.job_tables.specs.inner.Entries.{outcomesOf, targetOf};
+ghost use Rattle.job_tables.specs.inner.Entries.{BytesOf, outcomesOf, targetOf};
 use job_layout::Job;
 use job_layout::places::action_place;
 use job_layout::places::goal_place;
@@ -38,17 +38,42 @@ pub fn moves_on(file: &[u8], job: Job, action: u8) -> bool
     file[at] == 1
 }
 
+// The two bytes of a cell, whether it is legal or not: its next world state, and its result or 255.
+pub struct CellBytes {
+    pub next: WorldState,
+    pub result: u8,
+}
+
+// The bytes of the cell of an action in a world state, at a column.
+pub fn read_cell_bytes(
+    file: &[u8],
+    job: Job,
+    action: u8,
+    world: WorldState,
+    column: u8,
+) -> CellBytes
+    requires { ⌜ Opened (now file) job × (action < job .actions) × (world .0 < job .worlds) × (column < columns (job .kinds)) ⌝ }
+    ensures { λ r. ⌜ BytesOf (tablesOf (now (file .entry)) .cell action world column) (job .worlds) r ⌝ }
+{
+    let at = next_place(job, action, world, column);
+    CellBytes {
+        next: WorldState(file[at]),
+        result: file[at + 1],
+    }
+}
+
 // The cell of an action in a world state, at a column.
 pub fn read_cell(file: &[u8], job: Job, action: u8, world: WorldState, column: u8) -> Cell
     requires { ⌜ Opened (now file) job × (action < job .actions) × (world .0 < job .worlds) × (column < columns (job .kinds)) ⌝ }
     ensures { λ r. ⌜ outcomesOf r ≡ tablesOf (now (file .entry)) .cell action world column ⌝ }
 {
-    let at = next_place(job, action, world, column);
-    let result = file[at + 1];
+    let bytes = read_cell_bytes(file, job, action, world, column);
+    let next = bytes.next;
+    let result = bytes.result;
     if result == 255 {
         return Cell::NotLegal;
     }
-    Cell::Legal(WorldState(file[at]), result)
+    Cell::Legal(next, result)
 }
 
 // The world state is below W and marked as a start.

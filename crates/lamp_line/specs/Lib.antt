@@ -3,6 +3,7 @@ pub mod Endings
 pub mod Executions
 pub mod Lists
 pub mod Refusals
+pub mod Replay
 pub mod Run
 pub mod Tables
 pub mod WalkMeaning

@@ -1,4 +1,4 @@
--- A refusal cannot be read as an answer: the rules have the numbers 1 to 19, only refusals have the code 255, and both fields are read back
+-- A refusal cannot be read as an answer: the rules have the numbers 1 to 21, only refusals have the code 255, and both fields are read back
 -- whatever the fields above them hold.
 use mathlib.Core.Path.{_≡_, refl}
 use mathlib.Core.Bool.{Bool, true, false, cond, _&&_, and-eq-true-iff}
@@ -34,59 +34,63 @@ use Rattle.line_run.specs.RunAnswers as ran
 use Rattle.plan_check.specs.declared.CheckAnswer.{CheckAnswer}
 use Rattle.plan_check.specs.declared.CheckAnswer.the-variants as check
 use Rattle.plan_check.specs.CheckAnswers.{AnsweredRight, Lent, CheckedBy}
+use Rattle.log_replay.specs.declared.ReplayAnswer.{ReplayAnswer}
+use Rattle.log_replay.specs.declared.ReplayAnswer.the-variants as replay
+use Rattle.log_replay.specs.ReplayAnswers.{replayRules, ReplayedBy}
+use Rattle.log_replay.specs.ReplayAnswers as replayed
 use Rattle.cabinet.specs.declared.BeginAnswer.the-variants as begin
 use Rattle.cabinet.specs.declared.ActionAnswer.the-variants as action
 use Rattle.cabinet.specs.CabinetAnswers.{keeping, isMoving, followed, beginAnswer, actionAnswer, reportAnswer}
-use Rattle.nessflurry_c.specs.AnswerWords.{answerWord, goalCode, stoppedCode, arrivedCode, endedCode, refusedCode, endingCode, refusedWord, cabinetWord, readWord, walkWord, runWord, checkWord, beginWord, actionWord, reportWord}
+use Rattle.nessflurry_c.specs.AnswerWords.{answerWord, goalCode, stoppedCode, arrivedCode, endedCode, impossibleCode, refusedCode, endingCode, refusedWord, cabinetWord, readWord, walkWord, runWord, checkWord, beginWord, actionWord, reportWord, replayWord}
 use Rattle.nessflurry_c.specs.Fields.{RefusalShown, RefusalsShown}
 
 -- ---- one word
 
--- An answer has a code up to 7, and 0 in the refusal field.
-answered : (code state world count : ℕ) → code ≤ 7 → RefusalShown (answerWord 0 code state world count)
+-- An answer has a code up to 8, and 0 in the refusal field.
+answered : (code state world count : ℕ) → code ≤ 8 → RefusalShown (answerWord 0 code state world count)
 unfolding answerWord
 answered code state world count code≤ = (λ e. absurd (omega arith), λ not-0. absurd (not-0 (omega arith)))
 
 -- A refusal has the code 255, and its number in the refusal field.
-refused : (number state count : ℕ) → 1 ≤ number → number ≤ 19 → RefusalShown (answerWord number refusedCode state 0 count)
+refused : (number state count : ℕ) → 1 ≤ number → number ≤ 21 → RefusalShown (answerWord number refusedCode state 0 count)
 unfolding answerWord
-refused number state count 1≤ ≤19 = (λ e is-0. omega arith, λ not-0. omega arith)
+refused number state count 1≤ ≤21 = (λ e is-0. omega arith, λ not-0. omega arith)
 
-kind-code : (kind : FailureKind) → kindNumber kind ≤ 7
+kind-code : (kind : FailureKind) → kindNumber kind ≤ 8
 kind-code NotLegal = omega arith
 kind-code NoBranch = omega arith
 kind-code Circles = omega arith
 kind-code GoalFalse = omega arith
 
-ending-code : (x : Ending) → endingCode x ≤ 7
+ending-code : (x : Ending) → endingCode x ≤ 8
 ending-code Goal = omega arith
 ending-code (Failure kind) = kind-code kind
 
 -- ---- the rules
 
--- Tests that the numbers of the rules are within 1 to 19.
+-- Tests that the numbers of the rules are within 1 to 21.
 unfoldable numbered : List Rule → Bool
 numbered [] = true
-numbered ((number when applies) ∷ rules) = leb 1 number && leb number 19 && numbered rules
+numbered ((number when applies) ∷ rules) = leb 1 number && leb number 21 && numbered rules
 
 abbrev Numbered : Option ℕ → Type 0
 Numbered none = Unit
-Numbered (some number) = (1 ≤ number) × (number ≤ 19)
+Numbered (some number) = (1 ≤ number) × (number ≤ 21)
 
 -- Then so is that of the first rule that applies.
 first-number : (rules : List Rule) → numbered rules ≡ true → Numbered (refusal rules)
 unfolding numbered refusal
 first-number [] e = tt
 first-number ((number when true) ∷ rules) e =
-    let in-range = and-eq-true-iff (leb 1 number && leb number 19) (numbered rules) .0 e .0 in
-    let (low, high) = and-eq-true-iff (leb 1 number) (leb number 19) .0 in-range in
+    let in-range = and-eq-true-iff (leb 1 number && leb number 21) (numbered rules) .0 e .0 in
+    let (low, high) = and-eq-true-iff (leb 1 number) (leb number 21) .0 in-range in
     (leb-true _ _ low, leb-true _ _ high)
 first-number ((number when false) ∷ rules) e =
-    first-number rules (and-eq-true-iff (leb 1 number && leb number 19) (numbered rules) .0 e .1)
+    first-number rules (and-eq-true-iff (leb 1 number && leb number 21) (numbered rules) .0 e .1)
 
 -- An operation that answers by such rules: its answer shows whether it is a refusal, if each refusal and the answer without one do.
 by-rules : {A : Type 0} (refuse : ℕ → A) (word : A → ℕ) →
-    ((number : ℕ) → 1 ≤ number → number ≤ 19 → RefusalShown (word (refuse number))) →
+    ((number : ℕ) → 1 ≤ number → number ≤ 21 → RefusalShown (word (refuse number))) →
     (rules : List Rule) → numbered rules ≡ true → (answer : A) → RefusalShown (word answer) →
     RefusalShown (word (answerBy refuse rules answer))
 unfolding answerBy
@@ -98,7 +102,7 @@ by-rules refuse word shown rules e answer right = by (refusal rules) (first-numb
 
 -- ---- the operations
 
-refused-empty : (number : ℕ) → 1 ≤ number → number ≤ 19 → RefusalShown (refusedWord number)
+refused-empty : (number : ℕ) → 1 ≤ number → number ≤ 21 → RefusalShown (refusedWord number)
 refused-empty number = refused number 0 0
 
 begun-shown : (m : Cabinet) → RefusalShown (cabinetWord 0 goalCode m)
@@ -121,11 +125,19 @@ checked-shown none n t (check.Failed f) before after h =
 checked-shown none n t (check.Refused number) before after h = absurd h
 checked-shown (some number) n t x before after h = rw (h .0) (refused-empty number (n .0) (n .1))
 
+replayed-shown : (o : Option ℕ) → Numbered o → (t : Tables) (log : List ℕ) (x : ReplayAnswer) →
+    ReplayedBy o t log x → RefusalShown (replayWord x)
+unfolding replayed.ReplayedRight
+replayed-shown none n t log replay.Possible h = answered goalCode 0 0 0 (omega arith)
+replayed-shown none n t log (replay.ImpossibleAt place) h = answered impossibleCode 0 0 place (omega arith)
+replayed-shown none n t log (replay.Refused number) h = absurd h
+replayed-shown (some number) n t log x h = rw h (refused-empty number (n .0) (n .1))
+
 asked-shown : (final : Bool) (a : ℕ) → RefusalShown (actionWord (cond final action.Ended (action.Action a)))
 asked-shown true a = answered endedCode 0 0 0 (omega arith)
 asked-shown false a = answered goalCode a 0 0 (omega arith)
 
-refused-report : (m : Cabinet) (number : ℕ) → 1 ≤ number → number ≤ 19 → RefusalShown (reportWord (keeping m number))
+refused-report : (m : Cabinet) (number : ℕ) → 1 ≤ number → number ≤ 21 → RefusalShown (reportWord (keeping m number))
 refused-report m number = refused number (m .state .0) (m .lamps)
 
 followed-shown : (t : Tables) (m : Cabinet) (target : Option ProgramState) → RefusalShown (reportWord (followed t m target))
@@ -156,4 +168,8 @@ refusals-shown =
       of-report = λ s m result.
           by-rules (keeping m) reportWord (refused-report m) _ refl _
           (followed-shown (tablesOf s) m (tablesOf s .target (m .state) result));
+      of-replay = λ s log n word.
+          let rules = replayRules s log in
+          rw (word .as-number)
+          (replayed-shown (refusal rules) (first-number rules refl) (tablesOf s) log (word .answer) (word .replayed));
     }

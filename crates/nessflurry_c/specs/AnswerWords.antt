@@ -17,6 +17,9 @@ use Rattle.line_run.specs.declared.RunAnswer.the-variants as run
 use Rattle.plan_check.specs.declared.CheckAnswer.{CheckAnswer}
 use Rattle.plan_check.specs.declared.CheckAnswer.the-variants as check
 use Rattle.plan_check.specs.CheckAnswers.{Lent, Checked}
+use Rattle.log_replay.specs.declared.ReplayAnswer.{ReplayAnswer}
+use Rattle.log_replay.specs.declared.ReplayAnswer.the-variants as replay
+use Rattle.log_replay.specs.ReplayAnswers.{Replayed}
 use Rattle.cabinet.specs.declared.BeginAnswer.{BeginAnswer}
 use Rattle.cabinet.specs.declared.BeginAnswer.the-variants as begin
 use Rattle.cabinet.specs.declared.ActionAnswer.{ActionAnswer}
@@ -32,7 +35,7 @@ answerWord refusal code state world count = refusal + 256 * code + 65536 * state
 
 -- ---- the codes
 
--- Goal. It is also the code where a file is read, a plan accepted, an action named, a cabinet begun or a report taken.
+-- Goal. It is also the code where a file is read, a plan accepted, an action named, a cabinet begun, a report taken or a log possible.
 abbrev pub goalCode : ℕ
 goalCode = 0
 
@@ -47,6 +50,10 @@ arrivedCode = 6
 -- A call for the action in state S.
 abbrev pub endedCode : ℕ
 endedCode = 7
+
+-- A log that no start and line give.
+abbrev pub impossibleCode : ℕ
+impossibleCode = 8
 
 -- A refused call of any operation. Nothing else has this code, so a caller who reads only the code cannot mistake a refusal for an answer.
 abbrev pub refusedCode : ℕ
@@ -127,3 +134,15 @@ actionWord (action.Refused number) = refusedWord number
 abbrev pub reportWord : ReportAnswer → ℕ
 reportWord (report.Taken m) = cabinetWord 0 goalCode m
 reportWord (report.Refused number m) = cabinetWord number refusedCode m
+
+-- If the log is impossible, the count is the place of the first entry with which it is.
+abbrev pub replayWord : ReplayAnswer → ℕ
+replayWord replay.Possible = answerWord 0 goalCode 0 0 0
+replayWord (replay.ImpossibleAt place) = answerWord 0 impossibleCode 0 0 place
+replayWord (replay.Refused number) = refusedWord number
+
+-- The contract of the exported replay: r is the number for an answer that the replay may give.
+pub record ReplayedWord (s log : List ℕ) (r : ℕ) : Type 0 where
+  pub answer : ReplayAnswer
+  pub replayed : Replayed s log answer
+  pub as-number : r ≡ replayWord answer

@@ -11,7 +11,7 @@ use Rattle.lamp_walk.specs.WalkAnswers.{walkAnswer}
 use Rattle.line_run.specs.RunAnswers.{runAnswer}
 use Rattle.plan_check.specs.CheckAnswers.{Lent}
 use Rattle.cabinet.specs.CabinetAnswers.{beginAnswer, actionAnswer, reportAnswer}
-use Rattle.nessflurry_c.specs.AnswerWords.{answerWord, refusedCode, readWord, walkWord, runWord, CheckedWord, beginWord, actionWord, reportWord}
+use Rattle.nessflurry_c.specs.AnswerWords.{answerWord, refusedCode, readWord, walkWord, runWord, CheckedWord, beginWord, actionWord, reportWord, ReplayedWord}
 
 -- ---- the fields, as the header extracts them
 
@@ -59,3 +59,4 @@ pub record RefusalsShown : Type 0 where
   pub of-begin : (s : List ℕ) (lamps : ℕ) → RefusalShown (beginWord (beginAnswer s lamps))
   pub of-action : (s : List ℕ) (m : Cabinet) → RefusalShown (actionWord (actionAnswer s m))
   pub of-report : (s : List ℕ) (m : Cabinet) (result : ℕ) → RefusalShown (reportWord (reportAnswer s m result))
+  pub of-replay : (s log : List ℕ) (n : ℕ) → ReplayedWord s log n → RefusalShown n

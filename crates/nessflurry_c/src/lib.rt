@@ -9,7 +9,7 @@ ghost use Rattle.job_file.specs.Reading.{readingOf};
 ghost use Rattle.lamp_walk.specs.WalkAnswers.{walkAnswer};
 ghost use Rattle.line_run.specs.RunAnswers.{runAnswer};
 ghost use Rattle.cabinet.specs.CabinetAnswers.{beginAnswer, actionAnswer, reportAnswer};
-ghost use Rattle.nessflurry_c.specs.AnswerWords.{readWord, headNumbers, headAfter, walkWord, runWord, CheckedWord, beginWord, actionWord, reportWord};
+ghost use Rattle.nessflurry_c.specs.AnswerWords.{readWord, headNumbers, headAfter, walkWord, runWord, CheckedWord, beginWord, actionWord, reportWord, ReplayedWord};
 ghost use Rattle.nessflurry_c.specs.Version.{version};
 use cabinet::begin;
 use cabinet::next_action;
@@ -22,11 +22,13 @@ use lamp_line::ProgramState;
 use lamp_line::WorldState;
 use lamp_walk::walk_lamp;
 use line_run::run_line;
+use log_replay::replay_log;
 use plan_check::check_plan;
 use words::action_word;
 use words::begin_word;
 use words::check_word;
 use words::read_word;
+use words::replay_word;
 use words::report_word;
 use words::run_word;
 use words::walk_word;
@@ -143,4 +145,11 @@ pub extern "C" fn nessflurry_raw_report(file: &[u8], state: u8, lamps: u16, resu
         },
         result,
     ))
+}
+
+#[no_mangle]
+pub extern "C" fn nessflurry_raw_replay(file: &[u8], log: &[u8]) -> u64
+    ensures { λ r. ⌜ ReplayedWord (now (file .entry)) (now (log .entry)) r ⌝ }
+{
+    replay_word(replay_log(file, log))
 }

@@ -1,7 +1,7 @@
 // The answers of the operations as numbers for C: each function puts the fields of one operation's answer into one word.
 ghost use mathlib.Core.Path.{_≡_};
 ghost use Rattle.nessflurry_c.specs.AnswerWords.{answerWord, refusedWord, readWord, endingCode, walkWord, runWord};
-ghost use Rattle.nessflurry_c.specs.AnswerWords.{checkWord, cabinetWord, beginWord, actionWord, reportWord};
+ghost use Rattle.nessflurry_c.specs.AnswerWords.{checkWord, cabinetWord, beginWord, actionWord, reportWord, replayWord};
 use cabinet::ActionAnswer;
 use cabinet::BeginAnswer;
 use cabinet::ReportAnswer;
@@ -11,6 +11,7 @@ use lamp_line::Ending;
 use lamp_line::failure_number;
 use lamp_walk::WalkAnswer;
 use line_run::RunAnswer;
+use log_replay::ReplayAnswer;
 use plan_check::CheckAnswer;
 
 // The codes, besides 1 to 4, which are the numbers of the failure kinds.
@@ -21,6 +22,8 @@ const STOPPED: u8 = 5;
 const ARRIVED: u8 = 6;
 
 const ENDED: u8 = 7;
+
+const IMPOSSIBLE: u8 = 8;
 
 const REFUSED: u8 = 255;
 
@@ -134,5 +137,15 @@ pub fn report_word(answer: ReportAnswer) -> u64
     match answer {
         ReportAnswer::Taken(state) => cabinet_word(0, GOAL, state),
         ReportAnswer::Refused(number, state) => cabinet_word(number, REFUSED, state),
+    }
+}
+
+pub fn replay_word(answer: ReplayAnswer) -> u64
+    ensures { λ r. ⌜ r ≡ replayWord answer ⌝ }
+{
+    match answer {
+        ReplayAnswer::Possible => answer_word(0, GOAL, 0, 0, 0),
+        ReplayAnswer::ImpossibleAt(place) => answer_word(0, IMPOSSIBLE, 0, 0, place as u32),
+        ReplayAnswer::Refused(number) => refused_word(number),
     }
 }

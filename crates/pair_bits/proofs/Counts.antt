@@ -12,7 +12,8 @@ use lib.Count.{ones, ones-cat}
 use lib.ListN.{getD}
 use lib.Pow.{pow-pos, mod-pow-add}
 use Rattle.pair_bits.specs.inner.Bits.{bitOf, bitAt, countTo, Cleared, OnlySet}
-use Rattle.pair_bits.proofs.WordBits.{shifted-one}
+use Rattle.word_bits.specs.inner.WordBits.{bitIn}
+use Rattle.word_bits.proofs.WordBits.{shifted-one}
 
 -- ---- the ones of words
 
@@ -35,7 +36,7 @@ ones-more w m =
     (omega arith)
 
 bit-in-word : (ws : List ℕ) (j m : ℕ) → m < 64 → bitOf ws (j * 64 + m) ≡ getD ws j 0 / 2 ^ m % 2
-unfolding bitOf
+unfolding bitOf bitIn
 bit-in-word ws j m h = rw (digits-div j {m = 64} h, digits-mod j {m = 64} h)
 
 -- The ones up to the first m bits of word j.
@@ -52,7 +53,7 @@ count-block ws j (suc m) h =
 
 -- At most n of n bits are set.
 pub count-le : (ws : List ℕ) (n : ℕ) → countTo ws n ≤ n
-unfolding countTo bitOf
+unfolding countTo bitOf bitIn
 count-le ws zero = omega arith
 count-le ws (suc n) = omega (arith, count-le ws n)
 
@@ -99,7 +100,7 @@ bit-one : (ws : List ℕ) (i : ℕ) → bitAt ws i ≡ true → bitOf ws i ≡ 1
 bit-one ws i e = eqb-true (bitOf ws i) 1 e
 
 bit-zero : (ws : List ℕ) (i : ℕ) → bitAt ws i ≡ false → bitOf ws i ≡ 0
-unfolding bitOf
+unfolding bitOf bitIn
 bit-zero ws i e = let n = eqb-false (bitOf ws i) 1 e in omega arith
 
 same-bit : (ws vs : List ℕ) (i : ℕ) (b : Bool) → bitAt vs i ≡ b → bitAt ws i ≡ b → bitOf vs i ≡ bitOf ws i
@@ -150,4 +151,4 @@ count-lt ws i (suc n) l new =
     (eq-or-lt-of-le {n = i} {m = n} (omega arith))
   where
     bit-small : (k : ℕ) → bitOf ws k < 2
-    bit-small k = unfold bitOf in omega arith
+    bit-small k = unfold bitOf bitIn in omega arith

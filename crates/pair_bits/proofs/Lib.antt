@@ -1,3 +1,2 @@
-pub mod WordBits
 pub mod SetBits
 pub mod Counts

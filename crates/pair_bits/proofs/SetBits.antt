@@ -2,46 +2,31 @@
 use mathlib.Core.Path.{_≡_}
 use mathlib.Core.Logic.{_≢_}
 use mathlib.Core.List.{List}
-use Prim.Native.Nat.{ℕ, _+_, _*_, _/_, _%_, _^_, _<_, _≤_}
-use native.Mathlib.Nat.{div-eq-of-lt}
+use Prim.Native.Nat.{ℕ, _+_, _*_, _/_, _%_, _<_, _≤_}
 use native.Mathlib.Decide.{ℕ-discrete}
 use native.Mathlib.Omega.{arith}
-use lib.Bits.{bitOr}
 use lib.ListN.{length, getD, set, length-set}
-use lib.Pow.{pow-pos}
 use lib.Seq.{getD-set-same, getD-set-other}
-use Rattle.pair_bits.specs.inner.Bits.{bitOf, Cleared, OnlySet}
-use Rattle.pair_bits.proofs.WordBits.{or-set, or-keep}
+use Rattle.word_bits.specs.inner.WordBits.{OnlyAdded}
+use Rattle.word_bits.proofs.WordBits.{none-in-zero}
+use Rattle.pair_bits.specs.inner.Bits.{bitOf, bitAt, Cleared, OnlySet}
 
--- The word of bit i with that bit set.
-abbrev withBit : List ℕ → ℕ → ℕ
-withBit ws i = bitOr (getD ws (i / 64) 0) (1 * 2 ^ (i % 64) % 2 ^ 64)
+module _ (ws : List ℕ) (i : ℕ) {word : ℕ} (room : i < length ws * 64) (with : OnlyAdded (getD ws (i / 64) 0) word (i % 64)) where
+  other-bit : (k : ℕ) → k ≢ i → Dec (k / 64 ≡ i / 64) → bitAt (set ws (i / 64) word) k ≡ bitAt ws k
+  unfolding bitOf
+  other-bit k n (yes e) =
+      rw (e, getD-set-same ws (i / 64) word 0 (omega arith)) (with .others (k % 64) (λ f. n (omega arith)))
+  other-bit k n (no d) = rw (getD-set-other ws (i / 64) (k / 64) word 0 d)
 
-bit-set : (ws : List ℕ) (i : ℕ) → i < length ws * 64 → bitOf (set ws (i / 64) (withBit ws i)) i ≡ 1
-unfolding bitOf
-bit-set ws i h =
-    rw (getD-set-same ws (i / 64) (withBit ws i) 0 (omega arith)) (or-set (getD ws (i / 64) 0) (i % 64) (omega arith))
-
-bit-kept : (ws : List ℕ) (i k : ℕ) → i < length ws * 64 → k ≢ i → bitOf (set ws (i / 64) (withBit ws i)) k ≡ bitOf ws k
-unfolding bitOf
-bit-kept ws i k h n = go (ℕ-discrete (k / 64) (i / 64))
-  where
-    go :
-        Dec (k / 64 ≡ i / 64) →
-        getD (set ws (i / 64) (withBit ws i)) (k / 64) 0 / 2 ^ (k % 64) % 2 ≡ getD ws (k / 64) 0 / 2 ^ (k % 64) % 2
-    go (yes e) =
-        rw (e, getD-set-same ws (i / 64) (withBit ws i) 0 (omega arith))
-        (or-keep (getD ws (i / 64) 0) (i % 64) (k % 64) (omega arith) (λ f. n (omega arith)))
-    go (no d) = rw (getD-set-other ws (i / 64) (k / 64) (withBit ws i) 0 d)
-
--- An or with a one at bit i's place sets bit i and no other.
-pub only-set : {ws : List ℕ} {i : ℕ} → i < length ws * 64 → OnlySet ws (set ws (i / 64) (withBit ws i)) i
-only-set {ws} {i} h =
-    record {
-      now-set = rw (bit-set ws i h);
-      others = λ k n. rw (bit-kept ws i k h n);
-      long = length-set ws (i / 64) (withBit ws i);
-    }
+  -- The word of bit i is written with that bit set: bit i is set, and no other changes.
+  pub only-set : OnlySet ws (set ws (i / 64) word) i
+  unfolding bitOf
+  only-set =
+      record {
+        now-set = rw (getD-set-same ws (i / 64) word 0 (omega arith)) (with .added);
+        others = λ k n. other-bit k n (ℕ-discrete (k / 64) (i / 64));
+        long = length-set ws (i / 64) word;
+      }
 
 -- ---- words written as 0
 
@@ -61,4 +46,4 @@ module _ {ws : List ℕ} {n : ℕ} (zeros : Zeros ws n) where
   -- Words that are 0 have no bit set.
   pub zeros-cleared : (m : ℕ) → (m + 63) / 64 ≤ n → Cleared ws m
   unfolding Cleared bitOf
-  zeros-cleared m h i l = rw (zeros .zero-at (i / 64) (omega arith), div-eq-of-lt (pow-pos (i % 64)))
+  zeros-cleared m h i l = rw (zeros .zero-at (i / 64) (omega arith)) (none-in-zero (i % 64))

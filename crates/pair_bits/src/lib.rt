@@ -6,6 +6,8 @@ ghost use mathlib.Core.Path.{_≡_};
 ghost use Prim.Native.Nat.{_*_, _<_, _≤_};
 ghost use lib.ListN.{length};
 ghost use Rattle.pair_bits.specs.inner.Bits.{bitAt, countTo, Cleared, OnlySet};
+use word_bits::has_bit;
+use word_bits::with_bit;
 
 // Clears the words that hold the first n bits, whatever they held.
 pub fn clear_bits(words: &mut [u64], n: usize)
@@ -25,8 +27,7 @@ pub fn is_set(words: &[u64], i: usize) -> bool
     requires { ⌜ i < length (now words) * 64 ⌝ }
     ensures { λ r. ⌜ r ≡ bitAt (now (words .entry)) i ⌝ }
 {
-    let w = words[i / 64];
-    (w >> (i % 64)) % 2 == 1
+    has_bit(words[i / 64], i % 64)
 }
 
 // Sets bit i, and no other.
@@ -35,8 +36,7 @@ pub fn set_bit(words: &mut [u64], i: usize)
     ensures { λ _. ⌜ OnlySet (now (words .entry)) (now (words .exit)) i ⌝ }
 {
     let at = i / 64;
-    let w = words[at];
-    words[at] = w | (1u64 << (i % 64));
+    words[at] = with_bit(words[at], i % 64);
 }
 
 // The number of ones among the first n bits: words are taken whole, the last one without its bits after the first n.

@@ -1,7 +1,7 @@
 -- Laws of executions, for any plan and any action theory: an execution as a chain of steps, and executions that go on for ever.
 -- Where each step is determined, the shorter of two executions from the same place is the beginning of the longer. A place is a
 -- program state with a situation.
-use mathlib.Core.Path.{_≡_, refl, sym, ap, subst₂, _∙_}
+use mathlib.Core.Path.{_≡_, refl, sym, ap, subst, subst₂, _∙_}
 use mathlib.Core.List.{List, [], _∷_, _++_, append-nil}
 use Prim.Native.Nat.{ℕ, zero, suc, _≤_}
 use native.Mathlib.Decide.{decLe}
@@ -35,6 +35,27 @@ module _ (D : ActionTheory) (P : Plan) where
   chain→execution done = here
   chain→execution (first x a) = join (step x) (chain→execution a)
 
+  no-steps : {q q′ : P .State} {s s′ : D .Situation} → Chain [] q s q′ s′ → (q ≡ q′) × (s ≡ s′)
+  no-steps done = (refl, refl)
+
+  -- An execution without steps ends where it begins.
+  pub nothing-done : {q q′ : P .State} {s s′ : D .Situation} → T* D P [] q s q′ s′ → (q ≡ q′) × (s ≡ s′)
+  nothing-done a = no-steps (execution→chain a)
+
+  split-chain :
+      (ls : List Label) {ms : List Label} {q q′ : P .State} {s s′ : D .Situation} → Chain (ls ++ ms) q s q′ s′ →
+      (q″ : P .State) × (s″ : D .Situation) × Chain ls q s q″ s″ × Chain ms q″ s″ q′ s′
+  split-chain [] a = (_, _, done, a)
+  split-chain (l ∷ ls) (first x a) = let (q″, s″, b, c) = split-chain ls a in (q″, s″, first x b, c)
+
+  -- An execution by two lists of steps, one after the other, is at some place between them.
+  pub split-execution :
+      (ls : List Label) {ms : List Label} {q q′ : P .State} {s s′ : D .Situation} → T* D P (ls ++ ms) q s q′ s′ →
+      (q″ : P .State) × (s″ : D .Situation) × T* D P ls q s q″ s″ × T* D P ms q″ s″ q′ s′
+  split-execution ls a =
+      let (q″, s″, b, c) = split-chain ls (execution→chain a) in
+      (q″, s″, chain→execution b, chain→execution c)
+
   -- The execution reaches the place (state, at) by the steps ls, and goes on from there by a last step, with label l.
   pub record LastStep
       (ls : List Label) (l : Label) (q : P .State) (s : D .Situation) (q′ : P .State) (s′ : D .Situation) : Type 0 where
@@ -43,19 +64,29 @@ module _ (D : ActionTheory) (P : Plan) where
     pub before : T* D P ls q s state at
     pub last : Step D P state at l q′ s′
 
-  last-of-chain :
-      (ls : List Label) {l : Label} {q q′ : P .State} {s s′ : D .Situation} →
-      Chain (ls ++ (l ∷ [])) q s q′ s′ → LastStep ls l q s q′ s′
-  last-of-chain [] (first x done) = record { state = _; at = _; before = here; last = x }
-  last-of-chain (m ∷ ls) (first x a) =
-      let b = last-of-chain ls a in
-      record { state = b .state; at = b .at; before = join (step x) (b .before); last = b .last }
-
   -- An execution whose labels end with l has a last step, and its label is l.
   pub last-step :
       (ls : List Label) {l : Label} {q q′ : P .State} {s s′ : D .Situation} →
       T* D P (ls ++ (l ∷ [])) q s q′ s′ → LastStep ls l q s q′ s′
-  last-step ls a = last-of-chain ls (execution→chain a)
+  last-step ls {l} {q} {q′} {s} {s′} a = by (split-chain ls (execution→chain a))
+    where
+      by :
+          (q″ : P .State) × (s″ : D .Situation) × Chain ls q s q″ s″ × Chain (l ∷ []) q″ s″ q′ s′ → LastStep ls l q s q′ s′
+      by (q″, s″, b, first x done) = record { state = q″; at = s″; before = chain→execution b; last = x }
+
+  -- The labels of an execution determine its program state, whatever the situations are.
+  same-chain-state :
+      {ls : List Label} {q q₁ q₂ : P .State} {s s₁ s′ s₂ : D .Situation} →
+      Chain ls q s q₁ s₁ → Chain ls q s′ q₂ s₂ → q₁ ≡ q₂
+  same-chain-state done done = refl
+  same-chain-state (first x a) (first {ls = ls} {q′ = q₂} {s″ = s″} {s′ = s₂} y b) =
+      let same = sym (y .branch) ∙ x .branch in
+      same-chain-state a (subst (λ q. Chain ls q s″ q₂ s₂) (cc) b)
+
+  pub same-labels-same-state :
+      {ls : List Label} {q q₁ q₂ : P .State} {s s₁ s′ s₂ : D .Situation} →
+      T* D P ls q s q₁ s₁ → T* D P ls q s′ q₂ s₂ → q₁ ≡ q₂
+  same-labels-same-state a b = same-chain-state (execution→chain a) (execution→chain b)
 
   -- ---- executions for ever
 
@@ -108,9 +139,6 @@ module _ (D : ActionTheory) (P : Plan) where
   -- No step leaves the place.
   abbrev pub Halted : P .State → D .Situation → Type 0
   Halted q s = (l : Label) (q′ : P .State) (s′ : D .Situation) → ¬ (Step D P q s l q′ s′)
-
-  no-steps : {q q′ : P .State} {s s′ : D .Situation} → Chain [] q s q′ s′ → (q ≡ q′) × (s ≡ s′)
-  no-steps done = (refl, refl)
 
   not-halted : {l : Label} {ls : List Label} {q q′ : P .State} {s s′ : D .Situation} → Chain (l ∷ ls) q s q′ s′ → ¬ (Halted q s)
   not-halted {l} (first x a) halted = halted l _ _ x

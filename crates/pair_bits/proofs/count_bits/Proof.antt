@@ -1,7 +1,7 @@
 -- The sum so far is the number of ones in the words taken; the measure is the number of whole words left.
 use Prim.Native.Nat.{_-_, _%_}
 use native.Mathlib.Omega.{arith}
-use Rattle.pair_bits.proofs.WordBits.{shifted-one-positive}
+use Rattle.word_bits.proofs.WordBits.{shifted-one-positive}
 use Rattle.pair_bits.proofs.Counts.{count-le, Summed, summed-none, summed-more, summed-le, count-rest, count-whole}
 use Rattle.pair_bits.proofs.count_bits.Statement.{statement}
 use Rattle.pair_bits.proofs.count_bits.Tie as tie

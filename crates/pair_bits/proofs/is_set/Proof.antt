@@ -1,22 +1,21 @@
--- The shift and the remainder read bit i.
-use mathlib.Core.Path.{refl}
-use Rattle.pair_bits.specs.inner.Bits.{bitOf}
+-- Bit i is a bit of the word with the number i / 64.
 use borrow.Author.Needs.{needs}
+use Rattle.pair_bits.specs.inner.Bits.{bitOf}
 use Rattle.pair_bits.proofs.is_set.Statement.{statement}
 use Rattle.pair_bits.proofs.is_set.Tie as tie
 
-mul-w : tie.Need-mul-w
-mul-w c = search needs
+mul-has-bit : tie.Need-mul-has-bit
+mul-has-bit c = search needs
 
-shared-slice-read-w : tie.Need-shared-slice-read-w
-shared-slice-read-w c = search needs
+shared-slice-read-has-bit : tie.Need-shared-slice-read-has-bit
+shared-slice-read-has-bit c = search needs
 
-shr-result : tie.Need-shr-result
-shr-result c = search needs
+has-bit-requires : tie.Need-has-bit-requires
+has-bit-requires c κs = search needs
 
 returns : tie.Need-returns
 unfolding bitOf
-returns c = refl
+returns c = c .has-bit .ensures
 
 pub is-set-spec : {M : Type 1} → statement M
-is-set-spec = tie.close (tie.spec mul-w shared-slice-read-w shr-result returns)
+is-set-spec = tie.close (tie.spec mul-has-bit shared-slice-read-has-bit has-bit-requires returns)

@@ -3,13 +3,14 @@ use mathlib.Core.Path.{_≡_}
 use mathlib.Core.Logic.{_≢_}
 use mathlib.Core.Bool.{Bool, true, false}
 use mathlib.Core.List.{List}
-use Prim.Native.Nat.{ℕ, zero, suc, _+_, _/_, _%_, _^_, _<_}
+use Prim.Native.Nat.{ℕ, zero, suc, _+_, _/_, _%_, _<_}
 use lib.Dec.{eqb}
 use lib.ListN.{length, getD}
+use Rattle.word_bits.specs.inner.WordBits.{bitIn}
 
 -- Bit i of the words.
 unfoldable pub bitOf : List ℕ → ℕ → ℕ
-bitOf ws i = getD ws (i / 64) 0 / 2 ^ (i % 64) % 2
+bitOf ws i = bitIn (getD ws (i / 64) 0) (i % 64)
 
 -- Bit i is set.
 abbrev pub bitAt : List ℕ → ℕ → Bool

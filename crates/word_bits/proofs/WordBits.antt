@@ -1,13 +1,16 @@
 -- The bits of one word: those of an or and those of a power of two, and from these what setting one bit does to each bit.
-use mathlib.Core.Path.{_≡_}
+use mathlib.Core.Path.{_≡_, sym}
 use mathlib.Core.Logic.{_≢_}
+use mathlib.Core.Bool.{Bool, true, false, false≢true}
 use Prim.Native.Nat.{ℕ, suc, _+_, _*_, _-_, _/_, _%_, _^_, max, _<_}
-use native.Mathlib.Nat.{div-eq-of-lt, mod-eq-of-lt, div-self, pow-suc, one-mul}
+use native.Mathlib.Nat.{div-eq-of-lt, mod-eq-of-lt, div-self, pow-suc, one-mul, zero-mul}
 use native.Mathlib.Decide.{decLt}
 use native.Mathlib.Omega.{arith}
 use lib.Arith.{digits-mod}
 use lib.Bits.{bitOr, or-step, or-shr}
 use lib.Pow.{pow-pos, pow-add, pow-lt, shl-shr}
+use mir.Val.{boolByte}
+use Rattle.word_bits.specs.inner.WordBits.{bitIn, hasBit, OnlyAdded, AddedIf}
 
 -- ---- an or
 
@@ -41,10 +44,34 @@ shifted-one k h = rw (one-mul (2 ^ k)) (mod-eq-of-lt (pow-lt h))
 pub shifted-one-positive : (k : ℕ) → k < 64 → 0 < 1 * 2 ^ k % 2 ^ 64
 shifted-one-positive k h = rw (shifted-one k h) (pow-pos k)
 
--- Bit k is set after an or with that one.
-pub or-set : (a k : ℕ) → k < 64 → bitOr a (1 * 2 ^ k % 2 ^ 64) / 2 ^ k % 2 ≡ 1
+or-set : (a k : ℕ) → k < 64 → bitOr a (1 * 2 ^ k % 2 ^ 64) / 2 ^ k % 2 ≡ 1
 or-set a k h = rw (shifted-one k h, or-bit a (2 ^ k) k, power-same k) (omega arith)
 
--- Every other bit is as before.
-pub or-keep : (a k j : ℕ) → k < 64 → j ≢ k → bitOr a (1 * 2 ^ k % 2 ^ 64) / 2 ^ j % 2 ≡ a / 2 ^ j % 2
+or-keep : (a k j : ℕ) → k < 64 → j ≢ k → bitOr a (1 * 2 ^ k % 2 ^ 64) / 2 ^ j % 2 ≡ a / 2 ^ j % 2
 or-keep a k j h n = rw (shifted-one k h, or-bit a (2 ^ k) j, power-other k j n) (omega arith)
+
+-- An or with that one sets bit k and no other.
+pub only-added : {word k : ℕ} → k < 64 → OnlyAdded word (bitOr word (1 * 2 ^ k % 2 ^ 64)) k
+unfolding bitIn
+only-added {word} {k} h = record { added = rw (or-set word k h); others = λ j n. rw (or-keep word k j h n) }
+
+-- The same if a truth value says so: the machine shifts its 1 or 0.
+pub added-if : {word k : ℕ} (add : Bool) → k < 64 → AddedIf add word (bitOr word (boolByte add * 2 ^ k % 2 ^ 64)) k
+unfolding bitIn
+added-if true h = record { added = λ e. only-added h; kept = λ e k. absurd (false≢true (sym e)) }
+added-if {word} {k} false h =
+    let none : 0 * 2 ^ k % 2 ^ 64 ≡ 0 = rw (zero-mul (2 ^ k)) in
+    record {
+      added = λ e. absurd (false≢true e);
+      kept = λ e j. rw (none, or-bit word 0 j, div-eq-of-lt (pow-pos j), max-zero (word / 2 ^ j % 2));
+    }
+  where
+    max-zero : (b : ℕ) → max b 0 ≡ b
+    max-zero b = omega arith
+
+-- ---- no bit
+
+-- The word 0 has no bit set.
+pub none-in-zero : (i : ℕ) → hasBit 0 i ≡ false
+unfolding bitIn
+none-in-zero i = rw (div-eq-of-lt (pow-pos i))

@@ -1,0 +1,3 @@
+pub mod Holding
+pub mod NextWorlds
+pub mod WorldSets

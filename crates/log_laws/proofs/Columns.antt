@@ -1,0 +1,91 @@
+-- Columns and the lines of a job: each line is at one of the columns, each column is that of some line, and before each line there
+-- can be a lamp of any kind.
+use mathlib.Core.Path.{_≡_, refl}
+use mathlib.Core.Bool.{Bool, true, false, cond}
+use mathlib.Core.List.{List, [], _∷_}
+use Prim.Native.Nat.{ℕ, _<_}
+use native.Mathlib.Decide.{decLt}
+use native.Mathlib.Omega.{arith}
+use Rattle.plans.specs.Execution.{Label, T*, here, join, step}
+use Rattle.lamp_line.specs.declared.ProgramState.{ProgramState}
+use Rattle.lamp_line.specs.Tables.{Tables, Line, Situation, Kinds, Fits, endKinds, lampColumn, columns, column, passed, movesOn, lampTheory, planOf}
+use Rattle.run_laws.specs.inner.Lines.{lineOf}
+
+module _ (t : Tables) where
+  column-below :
+      (end : ℕ) (lamps : List ℕ) → end < endKinds t → Kinds (t .kinds) lamps → column t (lineOf end lamps) < columns (t .kinds)
+  unfolding endKinds lampColumn columns Kinds
+  column-below end [] e k = omega arith
+  column-below end (kind ∷ lamps) e k = omega (arith, k .1)
+
+  -- A line of the job is at one of the columns.
+  pub column-is-below : {line : Line} → Fits t line → column t line < columns (t .kinds)
+  column-is-below {line} fits = column-below (line .end) (line .lamps) (fits .ended) (fits .of-kinds)
+
+  -- Before a line there is a lamp, whose column is not an end's.
+  pub record LampBefore (rest : Line) (c : ℕ) : Type 0 where
+    pub line : Line
+    pub fits : Fits t line
+    pub is-column : column t line ≡ c
+    pub is-rest : passed line ≡ rest
+
+  pub lamp-before : {rest : Line} {c : ℕ} → Fits t rest → c < columns (t .kinds) → ¬ (c < endKinds t) → LampBefore rest c
+  unfolding endKinds lampColumn columns Kinds
+  lamp-before {rest} {c} fits c< not-end =
+      record {
+        line = lineOf (rest .end) (c ∷ rest .lamps);
+        fits = record { of-kinds = (omega arith, omega arith, fits .of-kinds); ended = fits .ended };
+        is-column = refl;
+        is-rest = refl;
+      }
+
+  -- A line of the job at a column.
+  pub record LineAt (c : ℕ) : Type 0 where
+    pub line : Line
+    pub fits : Fits t line
+    pub is-column : column t line ≡ c
+
+  empty-line : {end : ℕ} → end < endKinds t → Fits t (lineOf end [])
+  unfolding Kinds
+  empty-line is-end = record { of-kinds = tt; ended = is-end }
+
+  some-end : 0 < endKinds t
+  unfolding endKinds
+  some-end = omega arith
+
+  -- There is a column.
+  pub some-column : 0 < columns (t .kinds)
+  some-column = column-is-below (empty-line some-end)
+
+  -- Each column is that of some line.
+  pub line-at : {c : ℕ} → c < columns (t .kinds) → LineAt c
+  line-at {c} c< = by (decLt c (endKinds t))
+    where
+      by : Dec (c < endKinds t) → LineAt c
+      by (yes is-end) = record { line = lineOf c []; fits = empty-line is-end; is-column = refl }
+      by (no not-end) =
+          let before = lamp-before (empty-line some-end) c< not-end in
+          record { line = before .line; fits = before .fits; is-column = before .is-column }
+
+  -- An execution along a line of the job leaves a line of the job.
+  kinds-left : (b : Bool) (end : ℕ) (lamps : List ℕ) → Kinds (t .kinds) lamps → Kinds (t .kinds) (cond b (passed (lineOf end lamps)) (lineOf end lamps) .lamps)
+  unfolding Kinds
+  kinds-left false end lamps k = k
+  kinds-left true end [] k = tt
+  kinds-left true end (kind ∷ lamps) k = k .2
+
+  end-left : (b : Bool) (line : Line) → line .end < endKinds t → cond b (passed line) line .end < endKinds t
+  end-left true line e = e
+  end-left false line e = e
+
+  pub rest-fits :
+      {ls : List Label} {q q′ : ProgramState} {s s′ : Situation} → T* (lampTheory t) (planOf t) ls q s q′ s′ →
+      Fits t (s .rest) → Fits t (s′ .rest)
+  rest-fits here fits = fits
+  rest-fits (join a b) fits = rest-fits b (rest-fits a fits)
+  rest-fits (step {q = q} {s = s} x) fits =
+      rw (x .does .1)
+      (record {
+        of-kinds = kinds-left (movesOn t (t .action q)) (s .rest .end) (s .rest .lamps) (fits .of-kinds);
+        ended = end-left (movesOn t (t .action q)) (s .rest) (fits .ended);
+      })

@@ -1,0 +1,49 @@
+-- Each answer's fields are those of its definition.
+use borrow.Author.Needs.{needs}
+use Rattle.nessflurry_c.proofs.words.replay_word.Statement.{statement}
+use Rattle.nessflurry_c.proofs.words.replay_word.Tie as tie
+
+enum-told : tie.Need-enum-told
+enum-told c = search needs
+
+answer-word-requires : tie.Need-answer-word-requires
+answer-word-requires c κs = search needs
+
+enum-known-answer : tie.Need-enum-known-answer
+enum-known-answer c = search needs
+
+cast-answer-word : tie.Need-cast-answer-word
+cast-answer-word c = search needs
+
+answer-word-requires-2 : tie.Need-answer-word-requires-2
+answer-word-requires-2 c κs = search needs
+
+enum-known-answer-2 : tie.Need-enum-known-answer-2
+enum-known-answer-2 c = search needs
+
+refused-word-requires : tie.Need-refused-word-requires
+refused-word-requires c κs = search needs
+
+returns : tie.Need-returns
+returns c = cc
+
+returns-2 : tie.Need-returns-2
+returns-2 c = cc
+
+returns-3 : tie.Need-returns-3
+returns-3 c = cc
+
+pub replay-word-spec : {M : Type 1} → statement M
+replay-word-spec =
+    tie.close
+    (tie.spec
+    enum-told
+    answer-word-requires
+    enum-known-answer
+    cast-answer-word
+    answer-word-requires-2
+    enum-known-answer-2
+    refused-word-requires
+    returns
+    returns-2
+    returns-3)

@@ -1,0 +1,3 @@
+pub mod BitScan
+pub mod LowestBit
+pub mod WordBits
