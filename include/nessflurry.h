@@ -28,14 +28,15 @@
  *
  * - Sizes count elements, not bytes. A pointer must be aligned for its type and refer to at least as many elements as its size
  *   says; it may be NULL if the size is 0. Contents, sizes and numbers may be anything: a call that makes no sense is refused.
- * - Only `head` of nessflurry_read and `line`, `list` and `words` of nessflurry_check are ever written. They must not overlap each
- *   other or the file. A refused call writes nothing.
+ * - Only `head` of nessflurry_read and `line`, `list` and `words` of the two checks are ever written. They must not overlap each other
+ *   or the file. A refused call writes nothing.
  * - No call allocates memory, keeps a pointer, or touches anything but what it is handed, and every call returns.
  * - Threads: the library has no state of its own. Any number of calls may run at once, and may share a file, a line or a log that
  *   nobody writes meanwhile. What a call writes must not be shared while the call runs.
- * - Stack: nessflurry_check needs NESSFLURRY_CHECK_STACK bytes, whatever the file; every other call needs less than 600 bytes.
+ * - Stack: each of the two checks needs NESSFLURRY_CHECK_STACK bytes, whatever the file; every other call needs less than 600 bytes.
  * - Time: nothing is remembered between calls, so each one tests the whole file again and costs at least what nessflurry_read does:
- *   some 0.1 microseconds for a file of a hundred bytes, some 15 for the largest tables. A check takes a few milliseconds at most.
+ *   some 0.1 microseconds for a file of a hundred bytes, some 15 for the largest tables. A check takes a few milliseconds at most,
+ *   and a check up to a number of lamps no longer than that.
  *   A walk makes at most S * W steps, and a run at most that many for each lamp and for the end of the line; a step takes some ten
  *   nanoseconds. A replay takes some twenty nanoseconds for an entry, and a microsecond for one that leaves every world state possible
  *   at every column: 40 milliseconds at most (docs/SPEED.md).
@@ -77,7 +78,7 @@ enum {
     NESSFLURRY_ACCEPTED = 0,   /* check: the plan is right on every line */
     NESSFLURRY_ACTION = 0,     /* action: there is an action to perform */
     NESSFLURRY_POSSIBLE = 0,   /* replay: some start and line give the log */
-    NESSFLURRY_NOT_LEGAL = 1,  /* walk, run, check: failure 1, the plan's action is not legal */
+    NESSFLURRY_NOT_LEGAL = 1,  /* walk, run, the checks: failure 1, the plan's action is not legal */
     NESSFLURRY_NO_BRANCH = 2,  /* failure 2, the plan has no branch for the sensed result */
     NESSFLURRY_CIRCLES = 3,    /* failure 3, the plan goes on for ever at one lamp or at the end of the line */
     NESSFLURRY_GOAL_FALSE = 4, /* failure 4, ended in the final state with the goal false */
@@ -85,6 +86,7 @@ enum {
     NESSFLURRY_ARRIVED = 6,    /* walk: moved on, to the next lamp or to the end of the line */
     NESSFLURRY_ENDED = 7,      /* action: the cabinet is in the final state */
     NESSFLURRY_IMPOSSIBLE = 8, /* replay: no start and line give the log */
+    NESSFLURRY_NONE_UP_TO = 9, /* check up to: no line of up to that many lamps fails; longer ones are not looked at */
     NESSFLURRY_REFUSED = 255   /* any: see nessflurry_refusal_of */
 };
 
@@ -103,8 +105,8 @@ enum {
     NESSFLURRY_REFUSED_ACTIONS = 10,    /* the plan names an action that the job does not have */
     NESSFLURRY_REFUSED_TARGETS = 11,    /* the plan names a program state that it does not have */
     /* The other arguments. */
-    NESSFLURRY_REFUSED_LINE_BUFFER = 12,  /* check: fewer than S * W + 1 elements in `line` */
-    NESSFLURRY_REFUSED_WORK_BUFFERS = 13, /* check: fewer than (S + 1) * W elements in `list`, or bits in `words` */
+    NESSFLURRY_REFUSED_LINE_BUFFER = 12,  /* the checks: fewer than S * W + 1 elements in `line` */
+    NESSFLURRY_REFUSED_WORK_BUFFERS = 13, /* the checks: fewer than (S + 1) * W elements in `list`, or bits in `words` */
     NESSFLURRY_REFUSED_WORLD = 14,        /* run: not a start; walk: no such world state */
     NESSFLURRY_REFUSED_LINE = 15,         /* run: more than 65,535 lamps, or no such lamp kind; walk: no such column */
     NESSFLURRY_REFUSED_STATE = 16,        /* walk, action, report: no such program state */
@@ -122,10 +124,10 @@ enum {
     NESSFLURRY_MAX_FILE_SIZE = 65535,   /* the longest job file, in bytes */
     NESSFLURRY_MAX_LAMPS = 65535,       /* the longest line that can be run */
     NESSFLURRY_MAX_LOG_SIZE = 65534,    /* the longest log that can be replayed, in bytes */
-    NESSFLURRY_LINE_SIZE = 4097,        /* check: enough elements in `line` for every job, */
+    NESSFLURRY_LINE_SIZE = 4097,        /* the checks: enough elements in `line` for every job, */
     NESSFLURRY_LIST_SIZE = 4160,        /* in `list`, */
     NESSFLURRY_WORDS_SIZE = 65,         /* and in `words` */
-    NESSFLURRY_CHECK_STACK = 256 * 1024 /* check: the stack that it needs, in bytes */
+    NESSFLURRY_CHECK_STACK = 256 * 1024 /* the checks: the stack that each needs, in bytes */
 };
 
 /* Where nessflurry_read puts what into `head`. Offsets are from the front of the file; lengths are in bytes. */
@@ -190,6 +192,9 @@ uint64_t nessflurry_raw_run(const uint8_t *file, size_t file_size, uint8_t start
 NESSFLURRY_NODISCARD
 uint64_t nessflurry_raw_check(const uint8_t *file, size_t file_size, uint8_t *line, size_t line_size, uint32_t *list,
                               size_t list_size, uint64_t *words, size_t words_size);
+NESSFLURRY_NODISCARD
+uint64_t nessflurry_raw_check_up_to(const uint8_t *file, size_t file_size, uint16_t longest, uint8_t *line, size_t line_size,
+                                    uint32_t *list, size_t list_size, uint64_t *words, size_t words_size);
 NESSFLURRY_NODISCARD
 uint64_t nessflurry_raw_begin(const uint8_t *file, size_t file_size, uint16_t lamps);
 NESSFLURRY_NODISCARD
@@ -267,6 +272,29 @@ static inline uint64_t nessflurry_check(const uint8_t *file, size_t file_size, u
     uint64_t no_words = 0;
     return nessflurry_raw_check(nessflurry_not_null(file, file_size), file_size, line_size == 0 ? &no_line : line, line_size,
                                 list_size == 0 ? &no_list : list, list_size, words_size == 0 ? &no_words : words, words_size);
+}
+
+/*
+ * Checks the plan on the lines of up to `longest` lamps, and looks at no longer one.
+ *
+ * A failure: what nessflurry_check would answer, and it would leave the same in `line`; so the line has at most `longest` lamps.
+ *
+ * NESSFLURRY_NONE_UP_TO: from every start, the plan is right on every line of up to `longest` lamps; lamps_of is `longest`, and `line`
+ * is unchanged. It may still fail on a longer line: only nessflurry_check accepts a plan.
+ *
+ * `line`, `list` and `words` are as for nessflurry_check, and need the same sizes whatever `longest` is. Refusals 1 to 13.
+ */
+NESSFLURRY_NODISCARD
+static inline uint64_t nessflurry_check_up_to(const uint8_t *file, size_t file_size, uint16_t longest, uint8_t *line,
+                                              size_t line_size, uint32_t *list, size_t list_size, uint64_t *words,
+                                              size_t words_size)
+{
+    uint8_t no_line = 0;
+    uint32_t no_list = 0;
+    uint64_t no_words = 0;
+    return nessflurry_raw_check_up_to(nessflurry_not_null(file, file_size), file_size, longest, line_size == 0 ? &no_line : line,
+                                      line_size, list_size == 0 ? &no_list : list, list_size,
+                                      words_size == 0 ? &no_words : words, words_size);
 }
 
 /*

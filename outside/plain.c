@@ -1,8 +1,8 @@
 /*
- * Reader, one-lamp walk, run and cabinet, in plain_check.c the check and in plain_replay.c the replay, written from documents
+ * Reader, one-lamp walk, run and cabinet, in plain_check.c the checks and in plain_replay.c the replay, written from documents
  * 01 and 02 alone; they share nothing with crates/. They are the other side of the tests, which compare every answer with
  * them, and of the benchmark, where the walk is the plain loop. So each thing is done in the way the paper says it, and in no
- * cleverer one; the check that remembers is the exception.
+ * cleverer one; the checks that remember are the exception.
  *
  * "01" in the comments is document 01, followed by the title of the section that is rendered.
  */

@@ -15,9 +15,12 @@ uint64_t plain_action(const uint8_t *file, size_t file_size, uint8_t state, uint
 uint64_t plain_report(const uint8_t *file, size_t file_size, uint8_t state, uint16_t lamps, uint8_t result);
 uint64_t plain_replay(const uint8_t *file, size_t file_size, const uint8_t *log, size_t log_size);
 
-/* The check, in two forms that answer the same: one walks each time, the other remembers what walks came to. */
+/* The two checks, each in two forms that answer the same: one walks each time, the other remembers what walks came to. */
 typedef uint64_t check_call(const uint8_t *file, size_t file_size, uint8_t *line, size_t line_size, uint32_t *list,
                             size_t list_size, uint64_t *words, size_t words_size);
+typedef uint64_t check_up_to_call(const uint8_t *file, size_t file_size, uint16_t longest, uint8_t *line, size_t line_size,
+                                  uint32_t *list, size_t list_size, uint64_t *words, size_t words_size);
 check_call plain_check, plain_check_remembering;
+check_up_to_call plain_check_up_to, plain_check_up_to_remembering;
 
 #endif

@@ -1,15 +1,22 @@
 /*
- * The check of the plain implementation (01, The check), in two forms that make the same search. They differ in how they
- * find out what a pair comes to at a column: plain_check walks each time, and does no more than document 01 says;
- * plain_check_remembering keeps what walks came to, so that no step is made twice. The benchmark holds the product against
- * both, so both are as quick as their way allows.
+ * The checks of the plain implementation: the full one (01, The check) and the one up to a number of lamps (02, (b)). They
+ * make the same search, which goes from shorter lines to longer ones; the second stops it at its number of lamps.
+ *
+ * Each has two forms, which differ in how they find out what a pair comes to at a column: plain_check walks each time, and
+ * does no more than document 01 says; plain_check_remembering keeps what walks came to, so that no step is made twice. The
+ * benchmark holds the product against both, so both are as quick as their way allows.
+ *
+ * "02" in the comments is document 02, followed by the request that is rendered.
  */
 #include "plain.h"
 #include "plain_job.h"
 
 #include <string.h>
 
-/* The search is compiled into each form anew, and with it how a fate is found, so that neither form pays for the other. */
+/*
+ * The search is compiled into each form of each check anew, and with it how a fate is found, so that neither form pays for the
+ * other, nor the full check for a bound.
+ */
 #define EACH_FORM static inline __attribute__((always_inline))
 
 /* ---- Pairs as numbers ---- */
@@ -155,6 +162,9 @@ EACH_FORM unsigned remembered_fate(struct search *search, struct pair at, unsign
 
 /* ---- The search ---- */
 
+/* As `longest`: the search goes on until no pair is left, as none has so many lamps. No check can be told this number. */
+enum { NO_BOUND = NESSFLURRY_MAX_LAMPS + 1 };
+
 /*
  * A line comes with this pair to its end, or to a further lamp. The first time the pair is kept, and the line that ends
  * here is judged: Goal or its failure. A later line that ends with the same pair ends in the same way, and the first
@@ -227,9 +237,12 @@ static uint64_t failed_line(const uint32_t *list, unsigned failure, uint32_t pla
  * When no line fails, the list has each pair that some line reaches, once, as the words have one bit for it: their sum
  * is the length of the list.
  *
+ * Once the last pair of n lamps is taken, the list ends with the pairs of n + 1 lamps. Pairs of `longest` lamps are not taken:
+ * no lamp is tried after them, so that no longer line is looked at (02, (b)).
+ *
  * The search is handed over by value, so that no other pointer can lead to its numbers, and they may stay in registers.
  */
-EACH_FORM uint64_t search_lines(struct search search, finder *fate_of, uint8_t *line)
+EACH_FORM uint64_t search_lines(struct search search, finder *fate_of, uint32_t longest, uint8_t *line)
 {
     const struct job *const job = &search.job;
     memset(search.words, 0, word_count(job) * sizeof *search.words);
@@ -240,15 +253,21 @@ EACH_FORM uint64_t search_lines(struct search search, finder *fate_of, uint8_t *
         if (failure != NESSFLURRY_GOAL)
             return answered(failure, start.number, 0, 0);
     }
-    for (uint32_t place = 0; place < search.reached; place++) {
+    uint32_t lamps = 0, end = search.reached; /* of the pair that is next; and where the pairs of one lamp more begin */
+    for (uint32_t place = 0; place < search.reached && lamps < longest; place++) {
         const struct pair pair = pair_in(search.list[place]);
         for (unsigned kind = 1; kind < job->columns; kind++) {
             const unsigned failure = lengthen(&search, fate_of, pair, place, kind);
             if (failure != NESSFLURRY_GOAL)
                 return failed_line(search.list, failure, place, kind, line);
         }
+        if (place + 1 == end) {
+            lamps++;
+            end = search.reached;
+        }
     }
-    return answered(NESSFLURRY_ACCEPTED, 0, 0, search.reached);
+    return longest == NO_BOUND ? answered(NESSFLURRY_ACCEPTED, 0, 0, search.reached)
+                               : answered(NESSFLURRY_NONE_UP_TO, 0, 0, longest);
 }
 
 /* ---- The two forms ---- */
@@ -270,18 +289,20 @@ static unsigned check_refusal(const uint8_t *file, size_t file_size, size_t line
     return refusal != 0 ? refusal : buffer_refusal(job, line_size, list_size, words_size);
 }
 
-uint64_t plain_check(const uint8_t *file, size_t file_size, uint8_t *line, size_t line_size, uint32_t *list, size_t list_size,
-                     uint64_t *words, size_t words_size)
+/* The form that walks each time. */
+EACH_FORM uint64_t check_walking(const uint8_t *file, size_t file_size, uint32_t longest, uint8_t *line, size_t line_size,
+                                 uint32_t *list, size_t list_size, uint64_t *words, size_t words_size)
 {
     struct job job;
     const unsigned refusal = check_refusal(file, file_size, line_size, list_size, words_size, &job);
     if (refusal != 0)
         return refused(refusal);
-    return search_lines((struct search){.job = job, .list = list, .words = words}, walked_fate, line);
+    return search_lines((struct search){.job = job, .list = list, .words = words}, walked_fate, longest, line);
 }
 
-uint64_t plain_check_remembering(const uint8_t *file, size_t file_size, uint8_t *line, size_t line_size, uint32_t *list,
-                                 size_t list_size, uint64_t *words, size_t words_size)
+/* The form that remembers. */
+EACH_FORM uint64_t check_remembering(const uint8_t *file, size_t file_size, uint32_t longest, uint8_t *line, size_t line_size,
+                                     uint32_t *list, size_t list_size, uint64_t *words, size_t words_size)
 {
     struct job job;
     struct memory memory;
@@ -289,5 +310,32 @@ uint64_t plain_check_remembering(const uint8_t *file, size_t file_size, uint8_t 
     if (refusal != 0)
         return refused(refusal);
     make_ready(&memory, &job);
-    return search_lines((struct search){.job = job, .list = list, .words = words, .memory = &memory}, remembered_fate, line);
+    return search_lines((struct search){.job = job, .list = list, .words = words, .memory = &memory}, remembered_fate, longest,
+                        line);
+}
+
+/* ---- The checks ---- */
+
+uint64_t plain_check(const uint8_t *file, size_t file_size, uint8_t *line, size_t line_size, uint32_t *list, size_t list_size,
+                     uint64_t *words, size_t words_size)
+{
+    return check_walking(file, file_size, NO_BOUND, line, line_size, list, list_size, words, words_size);
+}
+
+uint64_t plain_check_remembering(const uint8_t *file, size_t file_size, uint8_t *line, size_t line_size, uint32_t *list,
+                                 size_t list_size, uint64_t *words, size_t words_size)
+{
+    return check_remembering(file, file_size, NO_BOUND, line, line_size, list, list_size, words, words_size);
+}
+
+uint64_t plain_check_up_to(const uint8_t *file, size_t file_size, uint16_t longest, uint8_t *line, size_t line_size,
+                           uint32_t *list, size_t list_size, uint64_t *words, size_t words_size)
+{
+    return check_walking(file, file_size, longest, line, line_size, list, list_size, words, words_size);
+}
+
+uint64_t plain_check_up_to_remembering(const uint8_t *file, size_t file_size, uint16_t longest, uint8_t *line,
+                                       size_t line_size, uint32_t *list, size_t list_size, uint64_t *words, size_t words_size)
+{
+    return check_remembering(file, file_size, longest, line, line_size, list, list_size, words, words_size);
 }

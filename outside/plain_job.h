@@ -74,7 +74,7 @@ unsigned read_job(const uint8_t *file, size_t file_size, struct job *job);
 /* ---- One action, and the walk at one lamp or at the line's end (01, One run) ---- */
 
 /* What an action comes to: failure 1 or 2; or a step to a pair, which moves on and arrives, or STAYS. */
-enum { STAYS = 9 }; /* none of the codes of nessflurry.h */
+enum { STAYS = 254 }; /* none of the codes of nessflurry.h */
 struct outcome {
     unsigned code;
     struct pair pair;

@@ -16,6 +16,7 @@ struct side {
     uint64_t (*walk)(const uint8_t *file, size_t file_size, uint8_t state, uint8_t world, uint8_t column);
     uint64_t (*run)(const uint8_t *file, size_t file_size, uint8_t start, const uint8_t *line, size_t lamps, uint32_t limit);
     check_call *check;
+    check_up_to_call *check_up_to;
     uint64_t (*begin)(const uint8_t *file, size_t file_size, uint16_t lamps);
     uint64_t (*action)(const uint8_t *file, size_t file_size, uint8_t state, uint16_t lamps);
     uint64_t (*report)(const uint8_t *file, size_t file_size, uint8_t state, uint16_t lamps, uint8_t result);
@@ -23,9 +24,10 @@ struct side {
 };
 
 static const struct side sides[SIDES] = {
-    {"nessflurry", nessflurry_read, nessflurry_walk, nessflurry_run, nessflurry_check, nessflurry_begin, nessflurry_action,
-     nessflurry_report, nessflurry_replay},
-    {"plain", plain_read, plain_walk, plain_run, plain_check, plain_begin, plain_action, plain_report, plain_replay},
+    {"nessflurry", nessflurry_read, nessflurry_walk, nessflurry_run, nessflurry_check, nessflurry_check_up_to, nessflurry_begin,
+     nessflurry_action, nessflurry_report, nessflurry_replay},
+    {"plain", plain_read, plain_walk, plain_run, plain_check, plain_check_up_to, plain_begin, plain_action, plain_report,
+     plain_replay},
 };
 
 #endif

@@ -1,5 +1,5 @@
 /*
- * The benchmark: nanoseconds a call of reader, run, report and replay on both sides; of the check on three, since in C it is
+ * The benchmark: nanoseconds a call of reader, run, report and replay on both sides; of the checks on three, since in C each is
  * made in two ways; and how the check's time grows with the numbers of a job. The answers of all sides are compared.
  */
 #include "tables.h"
@@ -12,6 +12,7 @@ int main(void)
            "Every call reads and tests the whole file. The buffers of a check are not cleared before a call.\n");
     print_operations();
     print_checks();
+    print_checks_up_to();
     print_growth();
     print_extremes();
     return 0;

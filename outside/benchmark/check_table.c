@@ -1,6 +1,6 @@
 /*
- * The check beside the two forms that it has in C: one walks each time, the other remembers what walks came to. Which of them
- * is the quicker one depends on the job, so the product is held against the better of the two.
+ * The checks beside the two forms that each has in C: one walks each time, the other remembers what walks came to. Which of
+ * them is the quicker one depends on the job, so the product is held against the better of the two.
  */
 #include "measure.h"
 #include "tables.h"
@@ -8,16 +8,33 @@
 #include <inttypes.h>
 #include <stdio.h>
 
-static struct greatest furthest_behind, furthest_ahead;
+static struct greatest furthest_behind, furthest_ahead, furthest_behind_up_to;
+
+static uint64_t measure_forms(side_call *call, const struct subject *subject, double best[CHECK_SIDES], double *to_better)
+{
+    uint64_t answer = measure(call, subject, CHECK_SIDES, best);
+    double better = best[PLAIN] < best[REMEMBERING] ? best[PLAIN] : best[REMEMBERING];
+    *to_better = best[NESSFLURRY] / better;
+    return answer;
+}
 
 static uint64_t measure_check(const struct subject *subject, double best[CHECK_SIDES], double *to_better)
 {
-    uint64_t answer = measure(call_check, subject, CHECK_SIDES, best);
-    double better = best[PLAIN] < best[REMEMBERING] ? best[PLAIN] : best[REMEMBERING];
-    *to_better = best[NESSFLURRY] / better;
+    uint64_t answer = measure_forms(call_check, subject, best, to_better);
     note(&furthest_behind, *to_better, subject);
     note(&furthest_ahead, best[PLAIN] / best[NESSFLURRY], subject);
     return answer;
+}
+
+static void print_title(const char *first)
+{
+    printf("%-14s%-23s%12s%13s%9s%9s\n", first, "job", "nessflurry", "/ remembers", "/ walks", "/ better");
+}
+
+static void print_measured(const char *first, const struct subject *subject, const double best[CHECK_SIDES], double to_better)
+{
+    printf("%-14s%-23s%12.0f%13.3f%9.3f%9.3f", first, subject->name, best[NESSFLURRY], best[NESSFLURRY] / best[REMEMBERING],
+           best[NESSFLURRY] / best[PLAIN], to_better);
 }
 
 /* ---- Jobs by class ---- */
@@ -49,8 +66,7 @@ static void print_check(const char *class, const struct subject *subject)
 {
     double best[CHECK_SIDES], to_better;
     uint64_t answer = measure_check(subject, best, &to_better);
-    printf("%-14s%-23s%12.0f%13.3f%9.3f%9.3f", class, subject->name, best[NESSFLURRY], best[NESSFLURRY] / best[REMEMBERING],
-           best[NESSFLURRY] / best[PLAIN], to_better);
+    print_measured(class, subject, best, to_better);
     print_answer(call_check, subject, answer);
 }
 
@@ -58,7 +74,7 @@ void print_checks(void)
 {
     static struct subject subject;
     printf("\nthe check, and its ratios to C that remembers, to C that walks, and to the better of the two\n\n");
-    printf("%-14s%-23s%12s%13s%9s%9s\n", "class", "job", "nessflurry", "/ remembers", "/ walks", "/ better");
+    print_title("class");
     example_subject(&subject);
     print_check("small domain", &subject);
     for (size_t i = 0; i < sizeof bench / sizeof *bench; i++) {
@@ -71,6 +87,43 @@ void print_checks(void)
     }
     steps_subject(&subject);
     print_check("long walks", &subject);
+}
+
+/* ---- Up to a number of lamps ---- */
+
+/* The first job fails after 3,585 lamps, so the search is over at once, soon, half way and at its end; the other is right. */
+static const struct {
+    enum sized_job which;
+    uint16_t longest;
+} up_to[] = {
+    {JOB_LONG_FAILURE, 0}, {JOB_LONG_FAILURE, 1}, {JOB_LONG_FAILURE, 1792}, {JOB_LONG_FAILURE, 65535}, {JOB_RANDOM, 3},
+    {JOB_RANDOM, 65535},
+};
+
+static void print_check_up_to(struct subject *subject, uint16_t longest)
+{
+    double best[CHECK_SIDES], to_better;
+    char first[14];
+    subject->longest = longest;
+    uint64_t answer = measure_forms(call_check_up_to, subject, best, &to_better);
+    snprintf(first, sizeof first, "%d", longest);
+    print_measured(first, subject, best, to_better);
+    print_answer(call_check_up_to, subject, answer);
+    note(&furthest_behind_up_to, to_better, subject);
+}
+
+void print_checks_up_to(void)
+{
+    static struct subject subject;
+    printf("\nthe check up to a number of lamps, and the same ratios\n\n");
+    print_title("longest");
+    bench_subject(&subject, "bench_g", BENCH_G);
+    print_check_up_to(&subject, 0);
+    print_check_up_to(&subject, NESSFLURRY_MAX_LAMPS);
+    for (size_t i = 0; i < sizeof up_to / sizeof *up_to; i++) {
+        sized_subject(&subject, up_to[i].which, FULL);
+        print_check_up_to(&subject, up_to[i].longest);
+    }
 }
 
 /* ---- Growth ---- */
@@ -104,6 +157,8 @@ void print_growth(void)
 void print_extremes(void)
 {
     printf("\nthe check at its worst takes %.3f times as long as the better of the two in C (%s);\n"
-           "at its best it is %.1f times as fast as C that walks (%s)\n",
-           furthest_behind.figure, furthest_behind.name, furthest_ahead.figure, furthest_ahead.name);
+           "at its best it is %.1f times as fast as C that walks (%s);\n"
+           "up to a number of lamps it takes at its worst %.3f times as long as the better of the two (%s)\n",
+           furthest_behind.figure, furthest_behind.name, furthest_ahead.figure, furthest_ahead.name,
+           furthest_behind_up_to.figure, furthest_behind_up_to.name);
 }

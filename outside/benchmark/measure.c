@@ -36,6 +36,14 @@ uint64_t call_check(int side, const struct subject *subject)
                         NESSFLURRY_LIST_SIZE, lent[side].words, NESSFLURRY_WORDS_SIZE);
 }
 
+uint64_t call_check_up_to(int side, const struct subject *subject)
+{
+    static check_up_to_call *const checks[CHECK_SIDES] = {nessflurry_check_up_to, plain_check_up_to,
+                                                          plain_check_up_to_remembering};
+    return checks[side](subject->file.bytes, subject->file.size, subject->longest, lent[side].line, NESSFLURRY_LINE_SIZE,
+                        lent[side].list, NESSFLURRY_LIST_SIZE, lent[side].words, NESSFLURRY_WORDS_SIZE);
+}
+
 uint64_t call_report(int side, const struct subject *subject)
 {
     return sides[side].report(subject->file.bytes, subject->file.size, subject->job.first, RUN_LAMPS, subject->result);
@@ -111,7 +119,9 @@ void print_answer(side_call *call, const struct subject *subject, uint64_t answe
         printf("  %zu lamps, %" PRIu32 " steps, %s\n", subject->lamps, nessflurry_steps_of(answer), endings[code]);
     else if (call == call_check && code == NESSFLURRY_ACCEPTED)
         printf("  accepted, %" PRIu32 " pairs\n", nessflurry_pairs_of(answer));
-    else if (call == call_check)
+    else if (code == NESSFLURRY_NONE_UP_TO)
+        printf("  none up to %d lamps\n", nessflurry_lamps_of(answer));
+    else if (call == call_check || call == call_check_up_to)
         printf("  %s after %d lamps\n", endings[code], nessflurry_lamps_of(answer));
     else if (call == call_replay)
         printf("  %zu entries, %s\n", entries_of(&subject->log), code == NESSFLURRY_POSSIBLE ? "possible" : "impossible");

@@ -59,6 +59,7 @@ static void finish_subject(struct subject *subject)
     for (subject->result = 0; subject->job.target[subject->job.first][subject->result] == NONE;)
         subject->result++;
     choose_line(subject);
+    subject->longest = 0;
     subject->log.size = 0;
 }
 

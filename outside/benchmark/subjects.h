@@ -14,11 +14,12 @@ struct subject {
     struct job job;
     struct file file;
     uint8_t start, line[RUN_LAMPS], result;
+    uint16_t longest;
     size_t lamps;
     struct log log;
 };
 
-/* Each makes the subject anew, with an empty log. */
+/* Each makes the subject anew, with an empty log and 0 lamps to check up to. */
 void bench_subject(struct subject *subject, const char *name, enum bench_variant variant);
 void example_subject(struct subject *subject);
 void sized_subject(struct subject *subject, enum sized_job which, enum size size);

@@ -7,11 +7,12 @@
 /* Reader, run, report and replay. */
 void print_operations(void);
 
-/* The check, and how its time grows. */
+/* The check, the one up to a number of lamps, and how the check's time grows. */
 void print_checks(void);
+void print_checks_up_to(void);
 void print_growth(void);
 
-/* Of the two tables before: where the product is furthest behind, and where it is furthest ahead of the walking loop. */
+/* Of the tables of checks before: where the product is furthest behind, and where it is furthest ahead of the walking loop. */
 void print_extremes(void);
 
 #endif

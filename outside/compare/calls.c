@@ -1,5 +1,6 @@
 #include "calls.h"
 
+#include "job_files/check_answers.h"
 #include "lent.h"
 #include "sides.h"
 #include "small_stack.h"
@@ -145,19 +146,59 @@ static struct {
     uint64_t words[NESSFLURRY_WORDS_SIZE + ROOM_BEYOND];
 } before;
 
-static uint64_t lend_and_check(check_call *check, int i, struct sizes sizes)
+/* A check: whose it is, up to how many lamps, with what it is called, and its answer. */
+struct check {
+    const struct side *by;
+    const uint8_t *file;
+    uint8_t *line;
+    uint32_t *list, longest;
+    uint64_t *words, answer;
+    struct sizes sizes;
+};
+
+static void make_check(void *given)
 {
-    uint8_t *line = lend_or_null(&lent[i].line, LINE_BUFFER, before.line, sizes.line);
-    uint32_t *list = lend_or_null(&lent[i].list, WORKING_LIST, before.list, sizes.list * sizeof *list);
-    uint64_t *words = lend_or_null(&lent[i].words, WORKING_WORDS, before.words, sizes.words * sizeof *words);
-    return check(bytes[i], size, line, sizes.line, list, sizes.list, words, sizes.words);
+    struct check *with = given;
+    const struct sizes sizes = with->sizes;
+    if (with->longest == NO_BOUND)
+        with->answer = with->by->check(with->file, size, with->line, sizes.line, with->list, sizes.list, with->words,
+                                       sizes.words);
+    else
+        with->answer = with->by->check_up_to(with->file, size, (uint16_t)with->longest, with->line, sizes.line, with->list,
+                                             sizes.list, with->words, sizes.words);
+}
+
+static size_t most_stack;
+
+static void make_check_alone(struct check *check)
+{
+    size_t used = on_small_stack(make_check, check);
+    most_stack = used > most_stack ? used : most_stack;
+}
+
+size_t most_stack_taken(void) { return most_stack; }
+
+/* The plain side where the product's check is alone. */
+static const struct side remembering = {.check = plain_check_remembering, .check_up_to = plain_check_up_to_remembering};
+
+static uint64_t lend_and_check(int i, bool alone, uint32_t longest, struct sizes sizes)
+{
+    const struct side *by = alone && i == PLAIN ? &remembering : &sides[i];
+    struct check check = {.by = by, .file = bytes[i], .longest = longest, .sizes = sizes};
+    check.line = lend_or_null(&lent[i].line, LINE_BUFFER, before.line, sizes.line);
+    check.list = lend_or_null(&lent[i].list, WORKING_LIST, before.list, sizes.list * sizeof *check.list);
+    check.words = lend_or_null(&lent[i].words, WORKING_WORDS, before.words, sizes.words * sizeof *check.words);
+    if (alone && i == NESSFLURRY)
+        make_check_alone(&check);
+    else
+        make_check(&check);
+    return check.answer;
 }
 
 /* The lamps of the failing line, as far as the lent buffer goes. */
 static size_t written(uint64_t answer, size_t room)
 {
-    uint8_t code = nessflurry_code_of(answer);
-    size_t lamps = code == NESSFLURRY_ACCEPTED || code == NESSFLURRY_REFUSED ? 0 : nessflurry_lamps_of(answer);
+    size_t lamps = lamps_written(answer);
     demand(lamps <= room, "a failing line that the buffer holds");
     return lamps <= room ? lamps : room;
 }
@@ -176,15 +217,16 @@ static void judge_buffers(int i, struct sizes sizes, uint64_t answer)
     demand(memcmp(lent[i].words.at, before.words, sizes.words * sizeof *before.words) == 0, "the words as they were, if refused");
 }
 
-static uint64_t compare_checks(check_call *const checks[SIDES], struct sizes sizes, uint8_t *failing, struct random *random)
+static uint64_t compare_checks(bool alone, uint32_t longest, struct sizes sizes, uint8_t *failing, struct random *random)
 {
     uint64_t answers[SIDES];
     random_bytes(random, before.line, sizes.line);
     random_bytes(random, before.list, sizes.list * sizeof *before.list);
     random_bytes(random, before.words, sizes.words * sizeof *before.words);
-    place_call(CHECK, sizes.line, sizes.list, sizes.words);
+    place_call(longest == NO_BOUND ? CHECK : CHECK_UP_TO, sizes.line, sizes.list, sizes.words);
+    place.arguments[3] = longest;
     for (int i = 0; i < SIDES; i++)
-        answers[i] = lend_and_check(checks[i], i, sizes);
+        answers[i] = lend_and_check(i, alone, longest, sizes);
     settle(answers);
     for (int i = 0; i < SIDES; i++)
         judge_buffers(i, sizes, answers[i]);
@@ -194,43 +236,12 @@ static uint64_t compare_checks(check_call *const checks[SIDES], struct sizes siz
     return answers[NESSFLURRY];
 }
 
-uint64_t compare_check(struct sizes sizes, uint8_t *failing, struct random *random)
+uint64_t compare_check(uint32_t longest, struct sizes sizes, uint8_t *failing, struct random *random)
 {
-    check_call *const checks[SIDES] = {sides[NESSFLURRY].check, sides[PLAIN].check};
-    return compare_checks(checks, sizes, failing, random);
+    return compare_checks(false, longest, sizes, failing, random);
 }
 
-/* A check to be made elsewhere: with what it is called, and its answer. */
-struct check {
-    const uint8_t *file;
-    uint8_t *line;
-    uint32_t *list;
-    uint64_t *words, answer;
-    size_t file_size;
-    struct sizes sizes;
-};
-
-static void make_check(void *given)
+uint64_t compare_check_alone(uint32_t longest, struct sizes sizes, uint8_t *failing, struct random *random)
 {
-    struct check *with = given;
-    with->answer = nessflurry_check(with->file, with->file_size, with->line, with->sizes.line, with->list, with->sizes.list,
-                                    with->words, with->sizes.words);
-}
-
-static size_t stack_taken; /* by the last check_alone */
-
-static uint64_t check_alone(const uint8_t *file, size_t file_size, uint8_t *line, size_t line_size, uint32_t *list,
-                            size_t list_size, uint64_t *words, size_t words_size)
-{
-    struct check check = {.file = file, .file_size = file_size, .line = line, .list = list, .words = words,
-                          .sizes = {line_size, list_size, words_size}};
-    stack_taken = on_small_stack(make_check, &check);
-    return check.answer;
-}
-
-size_t compare_check_alone(struct sizes sizes, uint8_t *failing, struct random *random)
-{
-    check_call *const checks[SIDES] = {check_alone, plain_check_remembering};
-    compare_checks(checks, sizes, failing, random);
-    return stack_taken;
+    return compare_checks(true, longest, sizes, failing, random);
 }

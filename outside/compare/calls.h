@@ -22,16 +22,19 @@ uint64_t compare_report(uint8_t state, uint16_t lamps, uint8_t result);
 uint64_t compare_replay(const uint8_t *log, size_t log_size);
 
 /*
- * The check, with random content in the buffers before. Each is at most ROOM_BEYOND elements larger than is enough for every
- * job. Where the check fails, the line is written to `failing`, of NESSFLURRY_LINE_SIZE.
+ * A check, with random content in the buffers before: the one up to `longest` lamps, or with NO_BOUND the full one. Each
+ * buffer is at most ROOM_BEYOND elements larger than is enough for every job. Where the check fails, the line is written to
+ * `failing`, of NESSFLURRY_LINE_SIZE.
  */
-enum { ROOM_BEYOND = 100 };
-uint64_t compare_check(struct sizes sizes, uint8_t *failing, struct random *random);
+enum { NO_BOUND = NESSFLURRY_MAX_LAMPS + 1, ROOM_BEYOND = 100 };
+typedef uint64_t check_comparison(uint32_t longest, struct sizes sizes, uint8_t *failing, struct random *random);
+check_comparison compare_check;
 
 /*
- * The same, with the product's check alone on a small stack; answers how many bytes of it that took (small_stack.h). On the plain
- * side it is the form that remembers, since the other takes long on the largest jobs.
+ * The same, with the product's check alone on a small stack (small_stack.h); and the most bytes of it that such a check has
+ * taken. On the plain side it is the form that remembers, since the other takes long on the largest jobs.
  */
-size_t compare_check_alone(struct sizes sizes, uint8_t *failing, struct random *random);
+check_comparison compare_check_alone;
+size_t most_stack_taken(void);
 
 #endif

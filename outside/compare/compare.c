@@ -29,7 +29,7 @@ static void try_sound(struct trial *trial)
     try_walks(trial);
     for (int more = 0; more < 4; more++)
         try_run(trial);
-    bool accepted = try_check(trial);
+    bool accepted = try_checks(trial);
     for (int more = 0; more < 2; more++) {
         try_short_buffers(trial);
         try_cabinet_calls(trial);
@@ -105,15 +105,12 @@ static void try_all(void *chosen)
         try_number(number);
 }
 
-/* The hardest jobs, with nothing but the product's check on the small stack. */
+/* The hardest jobs, with nothing but a check of the product on the small stack. */
 static void try_large(void)
 {
-    size_t most = 0;
-    for (uint32_t number = FIRST_LARGE; number < FIRST_RANDOM; number++) {
-        size_t used = try_check_alone(take_trial(number));
-        most = used > most ? used : most;
-    }
-    printf("a check of the largest jobs takes at most %zu of %d bytes of stack\n", most, NESSFLURRY_CHECK_STACK);
+    for (uint32_t number = FIRST_LARGE; number < FIRST_RANDOM; number++)
+        try_checks_alone(take_trial(number));
+    printf("a check of the largest jobs takes at most %zu of %d bytes of stack\n", most_stack_taken(), NESSFLURRY_CHECK_STACK);
 }
 
 int main(int argc, char **argv)

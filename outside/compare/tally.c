@@ -6,13 +6,13 @@
 #include <stdio.h>
 #include <stdlib.h>
 
-enum { REFUSALS = 22, CODES = 9 };
+enum { REFUSALS = 22, CODES = 10 };
 
 /* The numbers from one to another, as bits. */
 #define NUMBERS(from, to) ((2u << (to)) - (1u << (from)))
 
 static const struct {
-    const char *name, *arguments[3];
+    const char *name, *arguments[MOST_ARGUMENTS];
     const char *codes[CODES]; /* the names of the codes that it has */
     uint32_t refusals;        /* the refusals that it has, as bits */
 } known[OPERATIONS] = {
@@ -29,6 +29,10 @@ static const struct {
                {"line bytes", "list numbers", "words"},
                {"accepted", "failed 1", "failed 2", "failed 3", "failed 4"},
                NUMBERS(1, 13)},
+    [CHECK_UP_TO] = {"check up to",
+                     {"line bytes", "list numbers", "words", "longest"},
+                     {NULL, "failed 1", "failed 2", "failed 3", "failed 4", [NESSFLURRY_NONE_UP_TO] = "none"},
+                     NUMBERS(1, 13)},
     [BEGIN] = {"begin", {"lamps"}, {"begun"}, NUMBERS(1, 11)},
     [ACTION] = {"action",
                 {"state", "lamps"},
@@ -74,7 +78,7 @@ static void tell_place(void)
 {
     printf("first difference: job %" PRIu32 " (seen again by `compare only %" PRIu32 "`), %s", place.number, place.number,
            known[place.operation].name);
-    for (int i = 0; i < 3 && known[place.operation].arguments[i] != NULL; i++)
+    for (int i = 0; i < MOST_ARGUMENTS && known[place.operation].arguments[i] != NULL; i++)
         printf(" %s %" PRIu64, known[place.operation].arguments[i], place.arguments[i]);
     printf("\n");
 }
@@ -146,7 +150,7 @@ void count_answer(enum operation operation, uint64_t answer)
 
 static void print_operation(enum operation operation)
 {
-    printf("%-7s%9" PRIu64 " calls:", known[operation].name, counts[operation].calls);
+    printf("%-11s%9" PRIu64 " calls:", known[operation].name, counts[operation].calls);
     for (int code = 0; code < CODES; code++)
         if (known[operation].codes[code] != NULL)
             printf(" %s %" PRIu64 ",", known[operation].codes[code], counts[operation].answered[code]);

@@ -6,14 +6,15 @@
 
 #include "job_files/job_files.h"
 
-enum operation { READ, WALK, RUN, CHECK, BEGIN, ACTION, REPORT, REPLAY, OPERATIONS };
+enum operation { READ, WALK, RUN, CHECK, CHECK_UP_TO, BEGIN, ACTION, REPORT, REPLAY, OPERATIONS };
 
 /* Where the test is: told with the first difference, so that it can be seen again. */
+enum { MOST_ARGUMENTS = 4 };
 struct place {
     uint32_t number; /* of the job */
     const struct file *file;
     enum operation operation;
-    uint64_t arguments[3];
+    uint64_t arguments[MOST_ARGUMENTS];
 };
 extern struct place place;
 

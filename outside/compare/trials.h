@@ -33,11 +33,11 @@ void try_run(struct trial *trial);
 void try_short_buffers(struct trial *trial);
 void try_cabinet_calls(struct trial *trial);
 
-/* The check, and what follows from it for runs; answers whether the plan is accepted. */
-bool try_check(struct trial *trial);
+/* The checks, and what follows from them for runs; answers whether the plan is accepted. */
+bool try_checks(struct trial *trial);
 
-/* The check with the product's on a stack of its own (small_stack.h); answers the bytes of stack that it took. */
-size_t try_check_alone(struct trial *trial);
+/* The checks, each of the product's with the small stack for itself (small_stack.h). */
+void try_checks_alone(struct trial *trial);
 
 /* A cabinet that is led along a line. */
 void lead_cabinet(struct trial *trial, bool accepted);

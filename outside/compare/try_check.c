@@ -1,6 +1,7 @@
 /*
- * Runs with several limits, and the check with the runs that follow from it.
+ * Runs with several limits, and the checks with the runs that follow from them.
  */
+#include "both_checks.h"
 #include "choices.h"
 #include "nessflurry.h"
 #include "tally.h"
@@ -52,7 +53,7 @@ void try_short_buffers(struct trial *trial)
         sizes.list = too_few(needed.list, random);
     if (which & 4)
         sizes.words = too_few(needed.words, random);
-    uint64_t answer = compare_check(sizes, failing_line, random);
+    uint64_t answer = compare_both_checks(compare_check, sizes, failing_line, random);
     uint8_t due = which & 1 ? NESSFLURRY_REFUSED_LINE_BUFFER : NESSFLURRY_REFUSED_WORK_BUFFERS;
     demand(nessflurry_refusal_of(answer) == due, "the refusal of a short line buffer, else that of list and words");
 }
@@ -121,9 +122,10 @@ static void follow_failed(struct trial *trial, uint64_t failed)
     }
 }
 
-bool try_check(struct trial *trial)
+bool try_checks(struct trial *trial)
 {
-    uint64_t answer = compare_check(enough_or_more(&trial->job, &trial->random), failing_line, &trial->random);
+    struct sizes sizes = enough_or_more(&trial->job, &trial->random);
+    uint64_t answer = compare_both_checks(compare_check, sizes, failing_line, &trial->random);
     bool accepted = ends_in(answer, NESSFLURRY_ACCEPTED);
     if (accepted)
         follow_accepted(trial);
@@ -132,7 +134,7 @@ bool try_check(struct trial *trial)
     return accepted;
 }
 
-size_t try_check_alone(struct trial *trial)
+void try_checks_alone(struct trial *trial)
 {
-    return compare_check_alone(enough(&trial->job), failing_line, &trial->random);
+    compare_both_checks(compare_check_alone, enough(&trial->job), failing_line, &trial->random);
 }

@@ -1,6 +1,7 @@
 /*
  * Single calls: every operation on any file, and walks and cabinet calls by themselves.
  */
+#include "both_checks.h"
 #include "choices.h"
 #include "nessflurry.h"
 #include "tally.h"
@@ -56,13 +57,13 @@ static void try_any_run(struct trial *trial)
 }
 
 /* The file's refusal comes before those of the buffers. */
-static void try_any_check(struct trial *trial)
+static void try_any_checks(struct trial *trial)
 {
     static uint8_t failing_line[NESSFLURRY_LINE_SIZE];
     struct sizes sizes = enough_or_more(&trial->job, &trial->random);
     if (trial->due != 0 && one_in(&trial->random, 2))
         sizes = (struct sizes){0, 0, 0};
-    expect_due(trial, compare_check(sizes, failing_line, &trial->random));
+    expect_due(trial, compare_both_checks(compare_check, sizes, failing_line, &trial->random));
 }
 
 static void try_any_replay(struct trial *trial)
@@ -77,7 +78,7 @@ void try_file(struct trial *trial)
     expect_due(trial, compare_read(&trial->random));
     try_walk(trial);
     try_any_run(trial);
-    try_any_check(trial);
+    try_any_checks(trial);
     try_cabinet_calls(trial);
     try_any_replay(trial);
 }

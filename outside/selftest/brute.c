@@ -87,35 +87,64 @@ static unsigned try_lines(uint8_t start, uint32_t lamps, uint8_t line[], bool re
 
 static uint32_t count_of(const bool reached[BRUTE_PAIRS])
 {
+    const size_t pairs = enough(&job).list;
     uint32_t count = 0;
-    for (unsigned pair = 0; pair < BRUTE_PAIRS; pair++)
+    for (size_t pair = 0; pair < pairs; pair++)
         count += reached[pair];
     return count;
 }
 
+/* By demand 3 no shortest failing line has more lamps; and one lamp fewer is enough to reach every pair. */
+static uint16_t most_lamps(void)
+{
+    return (uint16_t)(job.states * job.worlds + 1);
+}
+
+/* No line of up to so many lamps fails. The search has stopped there: its words have only the pairs that these lines reach. */
+static void expect_none_up_to(uint16_t longest, const bool reached[BRUTE_PAIRS])
+{
+    const size_t words = enough(&job).words;
+    uint32_t kept = 0;
+    expect("none up to a number of lamps", check_up_to(longest), ending(NESSFLURRY_NONE_UP_TO, longest));
+    for (size_t i = 0; i < words; i++)
+        kept += (uint32_t)__builtin_popcountll(lent.words[i]);
+    expect("the pairs of a check up to a number of lamps", kept, count_of(reached));
+}
+
 /*
  * What the check owes: by lamp count, then start, then kinds, the first failing line, which is left in `line`; or the
- * number of pairs reached. By demand 3 no shortest failing line has more than S·W + 1 lamps; and S·W are enough to
- * reach every pair.
+ * number of pairs reached. The check up to each number of lamps before that line's owes none.
  */
 static uint64_t brute_check(uint8_t line[NESSFLURRY_LINE_SIZE])
 {
     bool reached[BRUTE_PAIRS] = {false};
-    for (uint32_t lamps = 0; lamps <= job.states * job.worlds + 1u; lamps++)
+    for (uint16_t lamps = 0; lamps <= most_lamps(); lamps++) {
         for (uint8_t start = 0; start < job.worlds; start++) {
             const unsigned code = job.starts[start] == 1 ? try_lines(start, lamps, line, reached) : NESSFLURRY_GOAL;
             if (code != NESSFLURRY_GOAL)
                 return failing(code, start, lamps);
         }
+        expect_none_up_to(lamps, reached);
+    }
     return ending(NESSFLURRY_ACCEPTED, count_of(reached));
+}
+
+static void expect_failure(uint64_t answer, uint64_t wanted, const uint8_t *line)
+{
+    expect("the failure against all lines", answer, wanted);
+    expect("the failing line against all lines", memcmp(lent.line, line, nessflurry_lamps_of(wanted)) == 0, true);
 }
 
 uint64_t expect_as_brute(void)
 {
     static uint8_t line[NESSFLURRY_LINE_SIZE];
     const uint64_t wanted = brute_check(line);
-    expect("the check against all lines", check(), wanted);
-    if (nessflurry_code_of(wanted) != NESSFLURRY_ACCEPTED)
-        expect("the failing line against all lines", memcmp(lent.line, line, nessflurry_lamps_of(wanted)) == 0, true);
+    if (nessflurry_code_of(wanted) == NESSFLURRY_ACCEPTED) {
+        expect("the check against all lines", check(), wanted);
+        return wanted;
+    }
+    expect_failure(check(), wanted, line);
+    for (uint16_t longest = nessflurry_lamps_of(wanted); longest <= most_lamps(); longest++)
+        expect_failure(check_up_to(longest), wanted, line);
     return wanted;
 }

@@ -1,7 +1,7 @@
 /*
- * The run by following the execution step by step, and the check by trying every line up to a length: slow, and with
- * nothing in them that could hide a line. They take the job at hand from its tables, and judge what plain_run and
- * plain_check make of its file.
+ * The run by following the execution step by step, and the checks by trying every line up to a length: slow, and with
+ * nothing in them that could hide a line. They take the job at hand from its tables, and judge what plain_run,
+ * plain_check and plain_check_up_to make of its file.
  */
 #ifndef BRUTE_H
 #define BRUTE_H
@@ -21,8 +21,9 @@ uint64_t brute_run(uint8_t start, const uint8_t *line, size_t lamps, bool reache
 bool next_line(uint8_t line[], uint32_t lamps);
 
 /*
- * The check says what the search over all lines of up to S·W + 1 lamps says, and each of these lines runs as its
- * execution does. Answers what the search says. The job is a small one, since all these lines are tried.
+ * The check says what the search over all lines of up to S·W + 1 lamps says, the check up to each number of lamps from 0 to
+ * that what the search over the lines of up to as many says, and each of these lines runs as its execution does. Answers what
+ * the search over all of them says. The job is a small one, since they are tried one by one.
  */
 uint64_t expect_as_brute(void);
 

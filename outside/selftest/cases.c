@@ -1,6 +1,8 @@
 /* What the test cases share. */
 #include "cases.h"
 
+#include "job_files/check_answers.h"
+
 #include <inttypes.h>
 #include <stdio.h>
 
@@ -74,12 +76,11 @@ enum { LENT_BYTE = 165 };
 
 struct lent lent;
 
-static bool kept(const void *bytes, size_t count)
+/* The first byte is LENT_BYTE, and each other one equals that before it: memcmp is quick, and this is asked often. */
+static bool kept(const void *lent_bytes, size_t count)
 {
-    for (size_t i = 0; i < count; i++)
-        if (((const uint8_t *)bytes)[i] != LENT_BYTE)
-            return false;
-    return true;
+    const uint8_t *const bytes = lent_bytes;
+    return count == 0 || (bytes[0] == LENT_BYTE && memcmp(bytes + 1, bytes, count - 1) == 0);
 }
 
 static uint64_t call_check(check_call *call, struct lent *to, struct sizes sizes)
@@ -88,31 +89,70 @@ static uint64_t call_check(check_call *call, struct lent *to, struct sizes sizes
     return call(file.bytes, file.size, to->line, sizes.line, to->list, sizes.list, to->words, sizes.words);
 }
 
+static uint64_t call_check_up_to(check_up_to_call *call, uint16_t longest, struct lent *to, struct sizes sizes)
+{
+    memset(to, LENT_BYTE, sizeof *to);
+    return call(file.bytes, file.size, longest, to->line, sizes.line, to->list, sizes.list, to->words, sizes.words);
+}
+
+/* What is lent to the form that remembers; to the other it is `lent`. */
+static struct lent remembering;
+
+static void expect_equal_forms(uint64_t remembered, uint64_t walked)
+{
+    expect("the check that remembers", remembered, walked);
+    expect("what is lent to the check that remembers", memcmp(&remembering, &lent, sizeof lent) == 0, true);
+}
+
 uint64_t check_with(struct sizes sizes)
 {
-    static struct lent remembering;
     const uint64_t answer = call_check(plain_check, &lent, sizes);
-    expect("the check that remembers", call_check(plain_check_remembering, &remembering, sizes), answer);
-    expect("what is lent to the check that remembers", memcmp(&remembering, &lent, sizeof lent) == 0, true);
+    expect_equal_forms(call_check(plain_check_remembering, &remembering, sizes), answer);
     return answer;
+}
+
+uint64_t check_up_to_with(uint16_t longest, struct sizes sizes)
+{
+    const uint64_t answer = call_check_up_to(plain_check_up_to, longest, &lent, sizes);
+    expect_equal_forms(call_check_up_to(plain_check_up_to_remembering, longest, &remembering, sizes), answer);
+    return answer;
+}
+
+static void expect_kept(struct sizes least, uint64_t answer)
+{
+    const uint32_t lamps = lamps_written(answer);
+    expect("what is after the line", kept(lent.line + lamps, sizeof lent.line - lamps), true);
+    expect("what is after the list", kept(lent.list + least.list, sizeof lent.list - least.list * sizeof lent.list[0]), true);
+    expect("what is after the words", kept(lent.words + least.words, sizeof lent.words - least.words * sizeof lent.words[0]),
+           true);
 }
 
 uint64_t check(void)
 {
     const struct sizes least = enough(&job);
     const uint64_t answer = check_with(least);
-    const uint32_t lamps = nessflurry_code_of(answer) == NESSFLURRY_ACCEPTED ? 0 : nessflurry_lamps_of(answer);
-    expect("what is after the line", kept(lent.line + lamps, sizeof lent.line - lamps), true);
-    expect("what is after the list", kept(lent.list + least.list, sizeof lent.list - least.list * sizeof lent.list[0]), true);
-    expect("what is after the words", kept(lent.words + least.words, sizeof lent.words - least.words * sizeof lent.words[0]),
-           true);
+    expect_kept(least, answer);
     return answer;
 }
 
+uint64_t check_up_to(uint16_t longest)
+{
+    const struct sizes least = enough(&job);
+    const uint64_t answer = check_up_to_with(longest, least);
+    expect_kept(least, answer);
+    return answer;
+}
+
+/* 02, (b), changes no size: a line of few lamps needs the same buffers. */
 void expect_refused_check(const char *what, struct sizes sizes, unsigned refusal)
 {
+    const uint16_t longest[] = {0, 1, NESSFLURRY_MAX_LAMPS};
     expect(what, check_with(sizes), refused(refusal));
     expect("the buffers of a refused check", kept(&lent, sizeof lent), true);
+    for (size_t i = 0; i < sizeof longest / sizeof *longest; i++) {
+        expect(what, check_up_to_with(longest[i], sizes), refused(refusal));
+        expect("the buffers of a refused check up to a number of lamps", kept(&lent, sizeof lent), true);
+    }
 }
 
 /* Every other argument is as wrong as can be, since the file's number comes before those of the call. */

@@ -1,4 +1,4 @@
-/* What the test cases share: comparing, the job at hand, and its check with lent buffers; and the groups of cases. */
+/* What the test cases share: comparing, the job at hand, and its checks with lent buffers; and the groups of cases. */
 #ifndef CASES_H
 #define CASES_H
 
@@ -11,6 +11,7 @@ void bench_cases(void);
 void refusal_cases(void);
 void long_line_cases(void);
 void form_cases(void);
+void up_to_cases(void);
 void replay_cases(void);
 
 /* Prints how many of its jobs were accepted, and how many failed in which way on how long a line. */
@@ -56,7 +57,7 @@ void expect_run(const char *what, const uint8_t *line, size_t lamps, uint32_t li
 /* The file is refused by every operation, with this number and without a changed byte. */
 void expect_refused_file(const char *what, unsigned refusal);
 
-/* ---- Its check ---- */
+/* ---- Its checks ---- */
 
 /* What is lent to a check, with LENT_BYTE everywhere before it. */
 extern struct lent {
@@ -65,13 +66,15 @@ extern struct lent {
     uint64_t words[NESSFLURRY_WORDS_SIZE];
 } lent;
 
-/* The check's answer with buffers of these sizes. Both of its forms are tried, and agree in it and in every lent byte. */
+/* A check's answer with buffers of these sizes. Both of its forms are tried, and agree in it and in every lent byte. */
 uint64_t check_with(struct sizes sizes);
+uint64_t check_up_to_with(uint16_t longest, struct sizes sizes);
 
-/* The check's answer with the least that must be lent, and nothing written after that or after the failing line. */
+/* A check's answer with the least that must be lent, and nothing written after that or after the failing line. */
 uint64_t check(void);
+uint64_t check_up_to(uint16_t longest);
 
-/* The check is refused, and changes no byte. */
+/* The check is refused, and so is the one up to any number of lamps; neither changes a byte. */
 void expect_refused_check(const char *what, struct sizes sizes, unsigned refusal);
 
 #endif

@@ -1,17 +1,33 @@
 /*
- * The two forms of the check against each other, on jobs for which the lines are too many to be tried one by one: whatever
- * is checked is checked in both forms.
+ * The two forms of the checks against each other, on jobs for which the lines are too many to be tried one by one: whatever
+ * is checked is checked in both forms. The check up to a number of lamps also stands against the full one.
  */
 #include "cases.h"
+#include "job_files/check_answers.h"
 #include "job_files/families.h"
 
 enum { RANDOM_JOBS = 4000, SEED = 20051 };
+
+/* The full check, and the one up to one lamp fewer than its failing line has, up to as many, and up to one and two more. */
+static uint64_t check_both(void)
+{
+    static uint8_t line[NESSFLURRY_LINE_SIZE];
+    const uint64_t full = check();
+    const uint32_t lamps = lamps_written(full);
+    memcpy(line, lent.line, lamps);
+    for (uint16_t longest = (uint16_t)(lamps > 0 ? lamps - 1 : 0); longest <= lamps + 2; longest++) {
+        const uint64_t answer = check_up_to(longest);
+        expect("a check up to a number of lamps", answer, due_up_to(longest, full));
+        expect("its failing line", memcmp(lent.line, line, lamps_written(answer)) == 0, true);
+    }
+    return full;
+}
 
 static uint64_t check_sized(enum sized_job which, enum size size)
 {
     sized_job(&job, which, size);
     write_job();
-    return check();
+    return check_both();
 }
 
 /* Where the answer can be seen from the job, it is demanded too. */
@@ -37,7 +53,7 @@ static void random_jobs(void)
     for (unsigned count = 0; count < RANDOM_JOBS; count++) {
         random_job(&job, &random);
         write_job();
-        circles += nessflurry_code_of(check()) == NESSFLURRY_CIRCLES;
+        circles += nessflurry_code_of(check_both()) == NESSFLURRY_CIRCLES;
     }
     expect("random jobs that circle", circles >= RANDOM_JOBS / 100, true);
 }

@@ -31,6 +31,18 @@ static void expect_counting_line(void)
         expect("a lamp of the counting line", lent.line[lamp], MOST_KINDS - lamp / MOST_WORLDS % LOOKING);
 }
 
+/* The failure comes with its last lamp, and not with fewer. */
+static void expect_up_to(uint64_t failed)
+{
+    const uint16_t lamps = nessflurry_lamps_of(failed), fewer[] = {0, 1, 255, 256, 257, (uint16_t)(lamps - 1)};
+    for (size_t i = 0; i < sizeof fewer / sizeof *fewer; i++)
+        expect("a long line, up to fewer lamps", check_up_to(fewer[i]), ending(NESSFLURRY_NONE_UP_TO, fewer[i]));
+    expect("a long line, up to the most lamps", check_up_to(NESSFLURRY_MAX_LAMPS), failed);
+    expect_counting_line();
+    expect("a long line, up to its lamps", check_up_to(lamps), failed);
+    expect_counting_line();
+}
+
 /* From the last of these pairs one more such lamp decides. */
 void long_line_cases(void)
 {
@@ -38,9 +50,11 @@ void long_line_cases(void)
     expect("counting without a last branch", check(), failing(NESSFLURRY_NO_BRANCH, 0, COUNTED));
     expect_counting_line();
     expect_run("the counting line", lent.line, COUNTED, UINT32_MAX, ending(NESSFLURRY_NO_BRANCH, 2 * COUNTED - 1));
+    expect_up_to(failing(NESSFLURRY_NO_BRANCH, 0, COUNTED));
     take_counting(MOST_STATES);
     expect("counting that ends before a lamp", check(), failing(NESSFLURRY_GOAL_FALSE, 0, COUNTED + 1));
     expect_counting_line();
+    expect_up_to(failing(NESSFLURRY_GOAL_FALSE, 0, COUNTED + 1));
     memset(job.goal, 1, sizeof job.goal);
     write_job();
     expect("counting that ends", check(), ending(NESSFLURRY_ACCEPTED, COUNTED + 1));

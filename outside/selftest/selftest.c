@@ -9,9 +9,11 @@ int main(void)
     refusal_cases();
     long_line_cases();
     form_cases();
+    up_to_cases();
     replay_cases();
-    printf("bench line G, refusals, long lines, forms of the check, logs: %u answers compared, %u differ\n", compared,
-           differing);
+    printf("bench line G, refusals, long lines, forms of the checks, checks up to some lamps, logs: %u answers compared, "
+           "%u differ\n",
+           compared, differing);
     random_cases();
     log_cases();
     printf("all: %u answers compared, %u differ\n", compared, differing);

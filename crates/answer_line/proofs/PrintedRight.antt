@@ -74,18 +74,18 @@ zeros-large =
 -- ---- each answer
 
 module _ (s : List ℕ) (before after : Lent) (large : Large before) where
-  by-file : (r : CheckAnswer) → Checked s r before after → CheckedBy (refusal (fileRules s)) (tablesOf s) r before after
+  by-file : (r : CheckAnswer) → Checked s r before after → CheckedBy answer.Refused (AnsweredRight (tablesOf s)) (refusal (fileRules s)) r before after
   by-file r checked =
       let by-sizes : refusal (checkRules s (length (before .line)) (length (before .list)) (length (before .words))) ≡ refusal (fileRules s) =
       rw (large .line-size, large .list-size, large .words-size) (large-enough s) in
-      subst (λ (o : Option ℕ). CheckedBy o (tablesOf s) r before after) by-sizes checked
+      subst (λ (o : Option ℕ). CheckedBy answer.Refused (AnsweredRight (tablesOf s)) o r before after) by-sizes checked
 
   -- After Accepted, its line is to be printed.
   pub accepted-printed : (count : ℕ) → Checked s (answer.Accepted count) before after → Printed s (verdictLine (accepted count))
   unfolding AnsweredRight
   accepted-printed count checked = by (refusal (fileRules s)) (by-file _ checked)
     where
-      by : (o : Option ℕ) → CheckedBy o (tablesOf s) (answer.Accepted count) before after →
+      by : (o : Option ℕ) → CheckedBy answer.Refused (AnsweredRight (tablesOf s)) o (answer.Accepted count) before after →
           PrintedBy o (tablesOf s) (verdictLine (accepted count))
       by none (right, same) = (accepted count, right, refl)
       by (some number) (e, same) = absurd (let z : _≡_ {A = ℕ} 0 1 = cc in omega arith)
@@ -96,7 +96,7 @@ module _ (s : List ℕ) (before after : Lent) (large : Large before) where
   unfolding AnsweredRight
   failed-printed f checked = by (refusal (fileRules s)) (by-file _ checked)
     where
-      by : (o : Option ℕ) → CheckedBy o (tablesOf s) (answer.Failed f) before after →
+      by : (o : Option ℕ) → CheckedBy answer.Refused (AnsweredRight (tablesOf s)) o (answer.Failed f) before after →
           PrintedBy o (tablesOf s) (verdictLine (failed (f .kind) (f .start) (lampLine (take (f .lamps) (after .line)))))
           × (f .lamps ≤ length (after .line))
       by none right = ((failed (f .kind) (f .start) (lampLine (take (f .lamps) (after .line))), right .right, refl), right .within)
@@ -107,7 +107,7 @@ module _ (s : List ℕ) (before after : Lent) (large : Large before) where
   unfolding AnsweredRight
   refused-printed number checked = by (refusal (fileRules s)) (by-file _ checked)
     where
-      by : (o : Option ℕ) → CheckedBy o (tablesOf s) (answer.Refused number) before after →
+      by : (o : Option ℕ) → CheckedBy answer.Refused (AnsweredRight (tablesOf s)) o (answer.Refused number) before after →
           PrintedBy o (tablesOf s) (refusedLine number)
       by none right = absurd right
       by (some n) (e, same) = let given : number ≡ n = cc in ap refusedLine given

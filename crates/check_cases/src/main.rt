@@ -1,7 +1,18 @@
 // The check on the bench cases of 01, with buffers of the least sizes and smaller, on small jobs, and on a job of the largest numbers, which
-// comes from standard input: prints the answers, and whether the bytes that must be kept are kept.
-ghost use mathlib.Core.Path.{_≡_};
-ghost use lib.ListN.{length};
+// comes from standard input; then the short check: prints the answers, and whether the bytes that must be kept are kept.
+mod jobs;
+mod kept;
+mod short;
+
+use crate::jobs::one_lamp_only;
+use crate::jobs::spoils_or_stops;
+use crate::jobs::stops_or_spoils;
+use crate::jobs::two_are_too_many;
+use crate::jobs::two_starts;
+use crate::kept::line_kept;
+use crate::kept::print_all_kept;
+use crate::kept::print_kept;
+use crate::short::short_checks;
 use bench_line::bench;
 use bench_line::bench_with;
 use bench_line::five_states;
@@ -10,54 +21,8 @@ use case_printing::print_counted;
 use case_printing::print_failure;
 use case_printing::print_name;
 use case_printing::print_refused;
-use case_printing::print_text;
 use libc::STDIN_FILENO;
 use plan_check::CheckAnswer;
-
-// Whether the line buffer, which is lent full of 7s, still has them from the given index on.
-fn line_kept(line: &[u8], from: usize) -> bool {
-    let mut i = from;
-    while i < line.len() {
-        if line[i] != 7 {
-            return false;
-        }
-        i += 1;
-    }
-    true
-}
-
-// Whether the working list, which is lent full of 9s, still has them all.
-fn list_kept(list: &[u32]) -> bool {
-    let mut i = 0;
-    while i < list.len() {
-        if list[i] != 9 {
-            return false;
-        }
-        i += 1;
-    }
-    true
-}
-
-// Whether the words still have the content with which they were lent.
-fn words_kept(words: &[u64], content: u64) -> bool {
-    let mut i = 0;
-    while i < words.len() {
-        if words[i] != content {
-            return false;
-        }
-        i += 1;
-    }
-    true
-}
-
-// Whether what must be kept is kept.
-fn print_kept(kept: bool) {
-    if kept {
-        print_text(b", kept\n");
-        return;
-    }
-    print_text(b", changed\n");
-}
 
 // The answer, and whether the bytes that must be kept are kept: after Accepted the whole line buffer, after Failed all bytes of it that
 // follow the line, after Refused all that was lent.
@@ -75,7 +40,7 @@ fn print_answer(answer: CheckAnswer, line: &[u8], list: &[u32], words: &[u64], c
         }
         CheckAnswer::Refused(number) => {
             print_refused(number);
-            print_kept(line_kept(line, 0) & list_kept(list) & words_kept(words, content));
+            print_all_kept(line, list, words, content);
         }
     }
 }
@@ -100,52 +65,6 @@ fn check_large(name: &[u8], file: &[u8]) {
     let mut list = [9u32; 20];
     let mut words = [0u64; 2];
     check(name, file, &mut line, &mut list, &mut words, 0);
-}
-
-// No program state but the final one, and two starts. For start 0 the goal is true only at the line's end, for start 1 only at a lamp.
-fn two_starts() -> [u8; 43]
-    ensures { λ r. ⌜ 43 ≡ length r ⌝ }
-{
-    [
-        1, 2, 1, 1, 0, 0, 0, 0, 28, 0, 1, 0, 29, 0, 8, 0, 37, 0,
-        2, 0, 39, 0, 4, 0, 43, 0, 0, 0, 0, 0, 0, 0, 0, 1, 0, 1,
-        0, 1, 1, 1, 0, 0, 1,
-    ]
-}
-
-// Peek and next, with a plan that goes to the end: next spoils the world at kind 1 and is not legal at kind 2.
-fn spoils_or_stops() -> [u8; 68]
-    ensures { λ r. ⌜ 68 ≡ length r ⌝ }
-{
-    [
-        2, 2, 2, 2, 2, 0, 0, 0, 28, 0, 2, 0, 30, 0, 24, 0, 54, 0,
-        2, 0, 56, 0, 6, 0, 62, 0, 6, 0, 0, 1, 0, 0, 0, 1, 0, 1,
-        1, 0, 1, 1, 1, 1, 0, 255, 1, 0, 0, 255, 0, 255, 1, 0, 0, 255,
-        1, 0, 1, 0, 0, 0, 0, 0, 0, 2, 1, 1, 0, 255,
-    ]
-}
-
-// Peek and next, with a plan that goes to the end: the world counts the lamps up to 2, and 2 is too many.
-fn two_are_too_many() -> [u8; 69]
-    ensures { λ r. ⌜ 69 ≡ length r ⌝ }
-{
-    [
-        2, 3, 1, 2, 2, 0, 0, 0, 28, 0, 2, 0, 30, 0, 24, 0, 54, 0,
-        3, 0, 57, 0, 6, 0, 63, 0, 6, 0, 0, 1, 0, 0, 0, 1, 1, 0,
-        1, 1, 2, 0, 2, 1, 0, 255, 1, 0, 0, 255, 2, 0, 0, 255, 2, 0,
-        1, 0, 0, 1, 1, 1, 1, 0, 0, 0, 2, 1, 1, 0, 255,
-    ]
-}
-
-// Peek and next, with a plan that ends after the first lamp.
-fn one_lamp_only() -> [u8; 47]
-    ensures { λ r. ⌜ 47 ≡ length r ⌝ }
-{
-    [
-        2, 1, 1, 2, 2, 0, 0, 0, 28, 0, 2, 0, 30, 0, 8, 0, 38, 0,
-        1, 0, 39, 0, 2, 0, 41, 0, 6, 0, 0, 1, 0, 0, 0, 1, 0, 255,
-        0, 0, 1, 1, 1, 0, 2, 1, 1, 2, 255,
-    ]
 }
 
 // The bench cases of the check.
@@ -254,18 +173,6 @@ fn no_states() {
     );
 }
 
-// `spoils_or_stops` with its two kinds exchanged.
-fn stops_or_spoils() -> [u8; 68]
-    ensures { λ r. ⌜ 68 ≡ length r ⌝ }
-{
-    [
-        2, 2, 2, 2, 2, 0, 0, 0, 28, 0, 2, 0, 30, 0, 24, 0, 54, 0,
-        2, 0, 56, 0, 6, 0, 62, 0, 6, 0, 0, 1, 0, 0, 0, 1, 0, 1,
-        1, 0, 1, 1, 1, 1, 0, 255, 0, 255, 1, 0, 0, 255, 0, 255, 1, 0,
-        1, 0, 1, 0, 0, 0, 0, 0, 0, 2, 1, 1, 0, 255,
-    ]
-}
-
 // Small jobs on which a search in another order, or one that confuses pairs, gives another answer.
 fn small_jobs() {
     check_large(b"the empty line of every start first", &two_starts());
@@ -308,4 +215,5 @@ fn main() {
     no_states();
     small_jobs();
     full_size();
+    short_checks();
 }

@@ -1,5 +1,6 @@
 // The check compared with plain means: a search over all short lines, and a count of the pairs that are reached. The comparison is made on
-// the bench cases of 01 and on many small jobs.
+// the bench cases of 01 and on many small jobs. On these jobs the short check is compared too, for each number of lamps that the plain
+// search reaches.
 mod jobs;
 mod plain_count;
 mod plain_search;
@@ -22,8 +23,9 @@ use case_printing::print_text;
 use lamp_line::failure_number;
 use plan_check::CheckAnswer;
 use plan_check::Failure;
+use plan_check::ShortAnswer;
 
-// What the comparison says of an answer of the check: which answer it is, if the plain means agree, or else that they differ.
+// What the comparison says of an answer of a check: which answer it is, if the plain means agree, or else that they differ.
 const ACCEPTED: u8 = 0;
 
 const FAILED: u8 = 1;
@@ -31,6 +33,8 @@ const FAILED: u8 = 1;
 const REFUSED: u8 = 2;
 
 const DIFFERENT: u8 = 3;
+
+const NONE: u8 = 4;
 
 // Whether the first bytes of the buffer are those of the line.
 fn is_front(line: &[u8], buffer: &[u8]) -> bool {
@@ -104,6 +108,33 @@ fn judge(file: &[u8], answer: CheckAnswer, buffer: &[u8]) -> u8 {
         CheckAnswer::Accepted(count) => judge_accepted(file, found, count),
         CheckAnswer::Failed(failure) => judge_failure(found, failure, buffer, &first),
         CheckAnswer::Refused(number) => judge_refused(found, number),
+    }
+}
+
+// None up to a number of lamps is right if it is the number asked for and the plain search finds no line of so many lamps that fails.
+fn judge_none(found: FirstFailing, longest: u16, told: u16) -> u8 {
+    let FirstFailing::Nothing = found else {
+        return DIFFERENT;
+    };
+    if told != longest {
+        return DIFFERENT;
+    }
+    NONE
+}
+
+// Judges an answer of the short check. The plain search tries the lines that fit into `first`, which is lent full of 1s.
+fn judge_short(
+    file: &[u8],
+    longest: u16,
+    answer: ShortAnswer,
+    buffer: &[u8],
+    first: &mut [u8],
+) -> u8 {
+    let found = first_failing(file, first);
+    match answer {
+        ShortAnswer::NoneUpTo(told) => judge_none(found, longest, told),
+        ShortAnswer::Failed(failure) => judge_failure(found, failure, buffer, first),
+        ShortAnswer::Refused(number) => judge_refused(found, number),
     }
 }
 
@@ -204,8 +235,48 @@ fn compare_jobs() {
     print_totals(accepted, failed, different);
 }
 
+// Compares the short check of one of the made jobs up to at most 4 lamps, with the smallest buffers.
+fn compare_short(job: u32, longest: u16) -> u8 {
+    let lamps = longest as usize;
+    if 4 < lamps {
+        return DIFFERENT;
+    }
+    let file = make_job(job);
+    let mut line = [1u8; 9];
+    let mut list = [0u32; 12];
+    let mut words = [0u64; 1];
+    let answer = plan_check::check_up_to(&file, longest, &mut line, &mut list, &mut words);
+    let mut first = [1u8; 4];
+    judge_short(&file, longest, answer, &line, &mut first[..lamps])
+}
+
+// How many short checks answered none, failed or were judged differently.
+fn print_short_totals(none: u32, failed: u32, different: u32) {
+    print_counted(b"the same up to 0, 1, 2, 3 and 4 lamps: none", none as u64);
+    print_counted(b", failed", failed as u64);
+    print_counted(b", different", different as u64);
+    print_text(b"\n");
+}
+
+// Compares the short check of all made jobs, each with the five numbers of lamps that the plain search reaches.
+fn compare_short_checks() {
+    let mut none: u32 = 0;
+    let mut failed: u32 = 0;
+    let mut different: u32 = 0;
+    let mut call: u32 = 0;
+    while call < 15000 {
+        let verdict = compare_short(call / 5, (call % 5) as u16);
+        none += one_if_equal(verdict, NONE);
+        failed += one_if_equal(verdict, FAILED);
+        different += one_if_equal(verdict, DIFFERENT);
+        call += 1;
+    }
+    print_short_totals(none, failed, different);
+}
+
 fn main() {
     bench_plans();
     bench_files();
     compare_jobs();
+    compare_short_checks();
 }

@@ -3,13 +3,16 @@ pub mod Ends
 pub mod Examples
 pub mod FailingLines
 pub mod FateLaws
+pub mod Layers
 pub mod MetPairs
 pub mod OneVerdict
 pub mod PassedLamps
 pub mod ReachedPairs
 pub mod RightAnswers
 pub mod RunLeads
+pub mod SearchParts
 pub mod SearchRest
 pub mod TableGraph
 pub mod TableTurns
+pub mod UpTo
 pub mod VerdictRight

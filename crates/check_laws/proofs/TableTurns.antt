@@ -19,18 +19,14 @@ use Rattle.search_laws.specs.inner.Entries.{Entry, entry, node, start, path, gr
 use Rattle.search_laws.proofs.Turns.{At, turn-quiet, fails-lamp, turn-add, fails-end}
 use Rattle.search_laws.proofs.Begin.{Begun, begin-skip, begin-add, begin-lowest}
 use Rattle.check_laws.specs.inner.Fates.{NodeFate, succeeds, fails, arrives, AtEnds, good, bad, startNode, fate, atEnds}
-use Rattle.check_laws.specs.inner.Search.{Turn, answers, goes-on, met, visited, visit, atStart, atLamp, firstLabel, labels, tried}
+use Rattle.check_laws.specs.inner.Search.{met, visited, visit, atStart, atLamp, firstLabel, labels, tried}
+use Rattle.check_laws.proofs.SearchParts.{Owes}
 use Rattle.check_laws.proofs.TableGraph.{one-end-kind, graph, plain}
 use Rattle.check_laws.proofs.RightAnswers.{least-right}
 use Rattle.check_laws.proofs.MetPairs.{met-true, met-false}
 use Rattle.check_laws.proofs.Ends.{GoodAtEnds, BadAtEnd, EndsSay, ends-say}
 
 module _ (t : Tables) where
-  -- What has to hold for the result of a part of the search: it is a right answer, or a table with the property P.
-  abbrev pub Owes : (List Entry → Type 0) → Turn → Type 0
-  Owes P (answers v) = Right t v
-  Owes P (goes-on E) = P E
-
   -- What is known before a label of a place is tried. At place 0, the starts below the label are taken. At place h + 1, the entries
   -- before h were tried with all kinds, and the entry h with the lower kinds.
   abbrev pub Stage : List Entry → ℕ → ℕ → Type 0
@@ -59,11 +55,11 @@ module _ (t : Tables) where
       (New E (z .node) → GoodAtEnds t (z .node) → P (grown E z)) →
       (New E (z .node) → (end : ℕ) (kind : FailureKind) → BadAtEnd t (z .node) end kind →
       Counterexample t kind (worldState (z .start)) (lineOf end (z .path))) →
-      Owes P (visit t E z)
+      Owes (Right t) P (visit t E z)
   unfolding Right
   visit-right P E z known added failing = go (met E (z .node)) refl (atEnds t (z .node)) (ends-say t (z .node))
     where
-      go : (b : Bool) → met E (z .node) ≡ b → (ends : AtEnds) → EndsSay t (z .node) ends → Owes P (visited E z b ends)
+      go : (b : Bool) → met E (z .node) ≡ b → (ends : AtEnds) → EndsSay t (z .node) ends → Owes (Right t) P (visited E z b ends)
       go true m ends say = let (j, l, is) = met-true E (z .node) m in known j l is
       go false m good say = added (met-false E (z .node) m) say
       go false m (bad end kind) say = failing (met-false E (z .node) m) end kind say
@@ -72,7 +68,7 @@ module _ (t : Tables) where
     -- A start is not marked, or its pair is visited. This pair is new, since no other start has it.
     start-right :
         (E : List Entry) (s : ℕ) → Begun (graph t) E s → (b : Bool) → t .start (worldState s) ≡ b →
-        Owes (λ E′. Begun (graph t) E′ (s + 1)) (atStart t E s b)
+        Owes (Right t) (λ E′. Begun (graph t) E′ (s + 1)) (atStart t E s b)
     start-right E s begun false e =
         begin-skip (graph t) E s begun (λ x (marked, is). let z : _≡_ {A = ℕ} 0 1 = cc in omega arith)
     start-right E s begun true e =
@@ -92,7 +88,7 @@ module _ (t : Tables) where
     -- At a kind of lamp, the run from an entry ends with the goal true, or fails, or arrives with a pair, which is visited.
     lamp-right :
         (E : List Entry) (h k : ℕ) → At (graph t) E h k → Kind (t .kinds) k →
-        (v : NodeFate) → fate t (node E h) (lampColumn t k) ≡ v → Owes (λ E′. At (graph t) E′ h (k + 1)) (atLamp t E h k v)
+        (v : NodeFate) → fate t (node E h) (lampColumn t k) ≡ v → Owes (Right t) (λ E′. At (graph t) E′ h (k + 1)) (atLamp t E h k v)
     unfolding Right
     lamp-right E h k at kind succeeds e =
         turn-quiet (graph t) E h k at (λ f (x, g, n). let z : _≡_ {A = ℕ} 0 1 = cc in omega arith)
@@ -114,7 +110,7 @@ module _ (t : Tables) where
     -- One turn at any place: one label is tried.
     pub tried-right :
         (E : List Entry) (h k : ℕ) → Stage E h k → firstLabel h ≤ k → k < labelsEnd h →
-        Owes (λ E′. Stage E′ h (k + 1)) (tried t E h k)
+        Owes (Right t) (λ E′. Stage E′ h (k + 1)) (tried t E h k)
     unfolding tried
     tried-right E zero s begun low high = start-right E s begun (t .start (worldState s)) refl
     tried-right E (suc h) k at low high =

@@ -18,20 +18,14 @@ use Rattle.search_laws.proofs.Room.{entries-fit}
 use Rattle.search_laws.proofs.Turns.{At, turn-next}
 use Rattle.search_laws.proofs.Begin.{Begun, begin-empty, begin-done}
 use Rattle.check_laws.specs.inner.Fates.{startNode}
-use Rattle.check_laws.specs.inner.Search.{Turn, answers, goes-on, andThen, conclusion, firstLabel, labels, tried}
+use Rattle.check_laws.specs.inner.Search.{Turn, answers, goes-on, conclusion, firstLabel, labels, tried}
 use Rattle.check_laws.specs.inner.Search.{labelsFrom, placesFrom, verdictOf}
 use Rattle.check_laws.proofs.TableGraph.{graph, start-bound, to-bound}
 use Rattle.check_laws.proofs.RightAnswers.{table-right}
-use Rattle.check_laws.proofs.TableTurns.{Owes, Stage, labelsEnd, labels-end, tried-right}
+use Rattle.check_laws.proofs.SearchParts.{Owes, and-then}
+use Rattle.check_laws.proofs.TableTurns.{Stage, labelsEnd, labels-end, tried-right}
 
 module _ (t : Tables) where
-  -- A part of the search, followed by the next.
-  and-then :
-      (P Q : List Entry → Type 0) (r : Turn) (f : List Entry → Turn) →
-      Owes t P r → ((E : List Entry) → P E → Owes t Q (f E)) → Owes t Q (andThen r f)
-  and-then P Q (answers v) f h after = h
-  and-then P Q (goes-on E) f h after = after E h
-
   -- All entries were tried with all kinds.
   abbrev Through : List Entry → Type 0
   Through E = (i : ℕ) × At (graph t) E i (t .kinds + 1) × (length E ≤ i + 1)
@@ -47,11 +41,11 @@ module _ (t : Tables) where
     -- The labels of a place, from k on.
     labels-right :
         (n : ℕ) (E : List Entry) (h k : ℕ) → Stage t E h k → firstLabel h ≤ k → k + n ≡ labelsEnd t h →
-        Owes t (λ E′. Stage t E′ h (labelsEnd t h)) (labelsFrom t n E h k)
+        Owes (Right t) (λ E′. Stage t E′ h (labelsEnd t h)) (labelsFrom t n E h k)
     unfolding labelsFrom
     labels-right zero E h k stage low e = let done : k ≡ labelsEnd t h = omega arith in subst (Stage t E h) done stage
     labels-right (suc n) E h k stage low e =
-        and-then (λ E′. Stage t E′ h (k + 1)) (λ E′. Stage t E′ h (labelsEnd t h))
+        and-then (Right t) (λ E′. Stage t E′ h (k + 1)) (λ E′. Stage t E′ h (labelsEnd t h))
         (tried t E h k) (λ E′. labelsFrom t n E′ h (k + 1))
         (tried-right t wf E h k stage low (omega arith))
         (λ E′ stage′. labels-right n E′ h (k + 1) stage′ (omega arith) (omega arith))
@@ -87,20 +81,20 @@ module _ (t : Tables) where
     -- The places, from h on.
     places-right :
         (n : ℕ) (E : List Entry) (h : ℕ) → Stands E h → (t .states + 1) * t .worlds + 1 ≤ h + n →
-        Owes t Through (placesFrom t n E h)
+        Owes (Right t) Through (placesFrom t n E h)
     unfolding placesFrom
     places-right zero E h (at-place stage) fuel = absurd (omega (arith, place-bound E h (firstLabel h) stage .1))
     places-right zero E h (after-last through end) fuel = through
     places-right (suc n) E h (at-place stage) fuel =
         rw (le-leb h (length E) (place-bound E h (firstLabel h) stage .0), Owes)
-        (and-then (λ E′. Stage t E′ h (labelsEnd t h)) Through
+        (and-then (Right t) (λ E′. Stage t E′ h (labelsEnd t h)) Through
         (labelsFrom t (labels t h) E h (firstLabel h)) (λ E′. placesFrom t n E′ (h + 1))
         (labels-right (labels t h) E h (firstLabel h) stage (omega arith) (labels-end t h))
         (λ E′ stage′. places-right n E′ (h + 1) (rw add-one (next-place E′ h stage′)) (omega arith)))
     places-right (suc n) E h (after-last through end) fuel = rw (lt-leb h (length E) end, Owes) through
 
     -- If all entries were tried, the conclusion is right.
-    conclusion-right : (r : Turn) → Owes t Through r → Right t (conclusion r)
+    conclusion-right : (r : Turn) → Owes (Right t) Through r → Right t (conclusion r)
     unfolding Right
     conclusion-right (answers v) h = h
     conclusion-right (goes-on E) (i, at, end) = table-right t wf E i at end

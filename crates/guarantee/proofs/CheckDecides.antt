@@ -1,6 +1,7 @@
 -- The check decides: it accepts exactly the correct plans, the lines that fail are exactly those whose execution misses the goal, and its
 -- answer and the line buffer depend only on what is handed in.
 use mathlib.Core.Path.{_≡_, refl, sym, ap, ap₂, _∙_}
+use mathlib.Core.Logic.{_⊎_, inl, inr, ⊎-elim}
 use mathlib.Core.Option.{Option, none, some}
 use mathlib.Core.List.{List, [], _++_}
 use Prim.Native.Nat.{ℕ}
@@ -10,7 +11,7 @@ use lib.Seq.{length-take-le}
 use Rattle.lamp_line.specs.declared.WorldState.{WorldState}
 use Rattle.lamp_line.specs.declared.FailureKind.{FailureKind}
 use Rattle.lamp_line.specs.declared.Ending.the-variants.{Goal, Failure}
-use Rattle.lamp_line.specs.Tables.{Tables, lampLine, lampProblem, planOf}
+use Rattle.lamp_line.specs.Tables.{Tables, Line, lampLine, Beginning, lampProblem, planOf}
 use Rattle.lamp_line.specs.inner.WellFormed.{WellFormed}
 use Rattle.lamp_line.specs.Endings.{Leads}
 use Rattle.lamp_line.specs.Run.{Run, ran, run}
@@ -29,19 +30,27 @@ use Rattle.guarantee.specs.CheckPromises.{AcceptedExactly, FailsExactly,
 
 -- ---- exactly when
 
+-- On each line, the execution reaches the goal or fails.
+pub goal-or-fails :
+    (t : Tables) → WellFormed t → (start : WorldState) (line : Line) → Beginning t start line →
+    Leads (lampProblem t) (planOf t) Goal (t .first) (situation start line) ⊎ ((kind : FailureKind) × Fails t kind start line)
+goal-or-fails t wf start line beginning = go (run t start line) refl
+  where
+    go :
+        (r : Run) → run t start line ≡ r →
+        Leads (lampProblem t) (planOf t) Goal (t .first) (situation start line) ⊎ ((kind : FailureKind) × Fails t kind start line)
+    go (ran Goal k) e = inl (run-leads t wf start line beginning Goal (k, e))
+    go (ran (Failure kind) k) e =
+        inr (kind, record { beginning = beginning; leads = run-leads t wf start line beginning (Failure kind) (k, e) })
+
 pub fails-exactly : FailsExactly
-fails-exactly s j opened start line beginning =
-    (λ (kind, d) g. goal-not-fails (tablesOf s) wf kind start line g d, λ not-goal. from not-goal (run (tablesOf s) start line) refl)
+fails-exactly s j opened start line beginning = (
+  λ (kind, d) g. goal-not-fails (tablesOf s) wf kind start line g d,
+  λ not-goal. ⊎-elim (λ g. absurd (not-goal g)) (λ d. d) (goal-or-fails (tablesOf s) wf start line beginning),
+)
   where
     wf : WellFormed (tablesOf s)
     wf = well-formed s j opened
-
-    from :
-        ¬ (Leads (lampProblem (tablesOf s)) (planOf (tablesOf s)) Goal (tablesOf s .first) (situation start line)) →
-        (r : Run) → run (tablesOf s) start line ≡ r → (kind : FailureKind) × Fails (tablesOf s) kind start line
-    from not-goal (ran Goal k) e = absurd (not-goal (run-leads (tablesOf s) wf start line beginning Goal (k, e)))
-    from not-goal (ran (Failure kind) k) e =
-        (kind, record { beginning = beginning; leads = run-leads (tablesOf s) wf start line beginning (Failure kind) (k, e) })
 
 pub accepted-exactly : AcceptedExactly
 unfolding AnsweredRight Right
@@ -78,7 +87,7 @@ failingLamps (failed kind start line) = line .lamps
 
 module _ (t : Tables) (wf : WellFormed t) where
   -- Two right answers for the same line buffer are equal, and leave it equal.
-  answered-once :
+  pub answered-once :
       (r r′ : CheckAnswer) (line line′ line″ : List ℕ) → AnsweredRight t r line line′ → AnsweredRight t r′ line line″ →
       (r ≡ r′) × (line′ ≡ line″)
   unfolding AnsweredRight
@@ -113,7 +122,8 @@ check-determined s r r′ before after after′ =
   where
     by :
         (o : Option ℕ) → checkRefusal s before ≡ o →
-        CheckedBy o (tablesOf s) r before after → CheckedBy o (tablesOf s) r′ before after′ → SameChecks r r′ after after′
+        CheckedBy answer.Refused (AnsweredRight (tablesOf s)) o r before after →
+        CheckedBy answer.Refused (AnsweredRight (tablesOf s)) o r′ before after′ → SameChecks r r′ after after′
     by (some number) e (is, same) (is′, same′) =
         record { same-answer = is ∙ sym is′; same-line = ap (λ (l : Lent). l .line) (same ∙ sym same′) }
     by none e right right′ =

@@ -4,4 +4,5 @@ pub mod CheckMeans
 pub mod ReplayDecides
 pub mod RunsAfterCheck
 pub mod RunsDecide
+pub mod ShortCheckDecides
 pub mod Unrefused

@@ -21,7 +21,7 @@ use Rattle.guarantee.proofs.RunsDecide.{ends-so, few-counted}
 use Rattle.guarantee.proofs.CheckMeans.{accepted-means, failed-means}
 
 -- An ending of the execution is that of the run.
-run-ends :
+pub run-ends :
     {s : List ℕ} {start : WorldState} {lamps : List ℕ} → UnrefusedRun s start lamps → (x : Ending) →
     Leads (lampProblem (tablesOf s)) (planOf (tablesOf s)) x (tablesOf s .first) (situation start (lampLine lamps)) →
     RunEnds s start lamps x

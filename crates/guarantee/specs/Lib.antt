@@ -2,3 +2,4 @@ pub mod CabinetPromises
 pub mod CheckPromises
 pub mod ReplayPromises
 pub mod RunPromises
+pub mod ShortCheckPromises

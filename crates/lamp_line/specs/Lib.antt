@@ -5,6 +5,7 @@ pub mod Lists
 pub mod Refusals
 pub mod Replay
 pub mod Run
+pub mod ShortCheck
 pub mod Tables
 pub mod WalkMeaning
 pub mod inner

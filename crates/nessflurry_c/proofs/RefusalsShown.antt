@@ -33,7 +33,11 @@ use Rattle.line_run.specs.RunAnswers.{runAnswer}
 use Rattle.line_run.specs.RunAnswers as ran
 use Rattle.plan_check.specs.declared.CheckAnswer.{CheckAnswer}
 use Rattle.plan_check.specs.declared.CheckAnswer.the-variants as check
-use Rattle.plan_check.specs.CheckAnswers.{AnsweredRight, Lent, CheckedBy}
+use Rattle.plan_check.specs.declared.Failure.{Failure as FailedAnswer}
+use Rattle.plan_check.specs.CheckAnswers.{AnsweredRight, Lent, checkRefusal, CheckedBy}
+use Rattle.plan_check.specs.declared.ShortAnswer.{ShortAnswer}
+use Rattle.plan_check.specs.declared.ShortAnswer.the-variants as short
+use Rattle.plan_check.specs.ShortAnswers.{AnsweredUpTo}
 use Rattle.log_replay.specs.declared.ReplayAnswer.{ReplayAnswer}
 use Rattle.log_replay.specs.declared.ReplayAnswer.the-variants as replay
 use Rattle.log_replay.specs.ReplayAnswers.{replayRules, ReplayedBy}
@@ -41,13 +45,13 @@ use Rattle.log_replay.specs.ReplayAnswers as replayed
 use Rattle.cabinet.specs.declared.BeginAnswer.the-variants as begin
 use Rattle.cabinet.specs.declared.ActionAnswer.the-variants as action
 use Rattle.cabinet.specs.CabinetAnswers.{keeping, isMoving, followed, beginAnswer, actionAnswer, reportAnswer}
-use Rattle.nessflurry_c.specs.AnswerWords.{answerWord, goalCode, stoppedCode, arrivedCode, endedCode, impossibleCode, refusedCode, endingCode, refusedWord, cabinetWord, readWord, walkWord, runWord, checkWord, beginWord, actionWord, reportWord, replayWord}
+use Rattle.nessflurry_c.specs.AnswerWords.{answerWord, goalCode, stoppedCode, arrivedCode, endedCode, impossibleCode, noneUpToCode, refusedCode, endingCode, refusedWord, cabinetWord, readWord, walkWord, runWord, failedWord, checkWord, shortWord, beginWord, actionWord, reportWord, replayWord}
 use Rattle.nessflurry_c.specs.Fields.{RefusalShown, RefusalsShown}
 
 -- ---- one word
 
--- An answer has a code up to 8, and 0 in the refusal field.
-answered : (code state world count : ℕ) → code ≤ 8 → RefusalShown (answerWord 0 code state world count)
+-- An answer has a code up to 9, and 0 in the refusal field.
+answered : (code state world count : ℕ) → code ≤ 9 → RefusalShown (answerWord 0 code state world count)
 unfolding answerWord
 answered code state world count code≤ = (λ e. absurd (omega arith), λ not-0. absurd (not-0 (omega arith)))
 
@@ -56,13 +60,13 @@ refused : (number state count : ℕ) → 1 ≤ number → number ≤ 21 → Refu
 unfolding answerWord
 refused number state count 1≤ ≤21 = (λ e is-0. omega arith, λ not-0. omega arith)
 
-kind-code : (kind : FailureKind) → kindNumber kind ≤ 8
+kind-code : (kind : FailureKind) → kindNumber kind ≤ 9
 kind-code NotLegal = omega arith
 kind-code NoBranch = omega arith
 kind-code Circles = omega arith
 kind-code GoalFalse = omega arith
 
-ending-code : (x : Ending) → endingCode x ≤ 8
+ending-code : (x : Ending) → endingCode x ≤ 9
 ending-code Goal = omega arith
 ending-code (Failure kind) = kind-code kind
 
@@ -116,14 +120,34 @@ ran-shown : (x : Limited) → RefusalShown (runWord (ran.runAnswerOf x))
 ran-shown (within x k) = answered (endingCode x) 0 0 k (ending-code x)
 ran-shown (stopped k) = answered stoppedCode 0 0 k (omega arith)
 
-checked-shown : (o : Option ℕ) → Numbered o → (t : Tables) (x : CheckAnswer) (before after : Lent) →
-    CheckedBy o t x before after → RefusalShown (checkWord x)
+failed-shown : (f : FailedAnswer) → RefusalShown (failedWord f)
+failed-shown f = answered (kindNumber (f .kind)) (f .start .0) 0 (f .lamps) (kind-code (f .kind))
+
+-- Either check: its answer shows whether it is a refusal, if each answer that is right does.
+module _ {A : Type 0} (refuse : ℕ → A) (IsRight : A → List ℕ → List ℕ → Type 0) (word : A → ℕ)
+    (shown : (number : ℕ) → 1 ≤ number → number ≤ 21 → RefusalShown (word (refuse number)))
+    (right : (x : A) (line line′ : List ℕ) → IsRight x line line′ → RefusalShown (word x)) where
+  by-check : (s : List ℕ) (x : A) (before after : Lent) → CheckedBy refuse IsRight (checkRefusal s before) x before after → RefusalShown (word x)
+  unfolding numbered
+  by-check s x before after h =
+      by (checkRefusal s before) (first-number (checkRules s (length (before .line)) (length (before .list)) (length (before .words))) refl) h
+    where
+      by : (o : Option ℕ) → Numbered o → CheckedBy refuse IsRight o x before after → RefusalShown (word x)
+      by none n h = right x (before .line) (after .line) h
+      by (some number) n h = rw (h .0) (shown number (n .0) (n .1))
+
+checked-shown : (t : Tables) (x : CheckAnswer) (line line′ : List ℕ) → AnsweredRight t x line line′ → RefusalShown (checkWord x)
 unfolding AnsweredRight
-checked-shown none n t (check.Accepted count) before after h = answered goalCode 0 0 count (omega arith)
-checked-shown none n t (check.Failed f) before after h =
-    answered (kindNumber (f .kind)) (f .start .0) 0 (f .lamps) (kind-code (f .kind))
-checked-shown none n t (check.Refused number) before after h = absurd h
-checked-shown (some number) n t x before after h = rw (h .0) (refused-empty number (n .0) (n .1))
+checked-shown t (check.Accepted count) line line′ h = answered goalCode 0 0 count (omega arith)
+checked-shown t (check.Failed f) line line′ h = failed-shown f
+checked-shown t (check.Refused number) line line′ h = absurd h
+
+short-shown :
+    (t : Tables) (longest : ℕ) (x : ShortAnswer) (line line′ : List ℕ) → AnsweredUpTo t longest x line line′ → RefusalShown (shortWord x)
+unfolding AnsweredUpTo
+short-shown t longest (short.NoneUpTo n) line line′ h = answered noneUpToCode 0 0 n (omega arith)
+short-shown t longest (short.Failed f) line line′ h = failed-shown f
+short-shown t longest (short.Refused number) line line′ h = absurd h
 
 replayed-shown : (o : Option ℕ) → Numbered o → (t : Tables) (log : List ℕ) (x : ReplayAnswer) →
     ReplayedBy o t log x → RefusalShown (replayWord x)
@@ -157,10 +181,14 @@ refusals-shown =
       of-run = λ s start lamps limit.
           by-rules run.Refused runWord refused-empty (runRules s start lamps) refl _
           (ran-shown (limited limit (lineRun (tablesOf s) start (lampLine lamps))));
-      of-check = λ s n before after checked.
-          let rules = checkRules s (length (before .line)) (length (before .list)) (length (before .words)) in
-          rw (checked .as-number)
-          (checked-shown (refusal rules) (first-number rules refl) (tablesOf s) (checked .answer) before after (checked .checked));
+      of-check = λ s n before after word.
+          rw (word .as-number)
+          (by-check check.Refused (AnsweredRight (tablesOf s)) checkWord refused-empty (checked-shown (tablesOf s)) s (word .answer)
+          before after (word .checked));
+      of-check-up-to = λ s longest n before after word.
+          rw (word .as-number)
+          (by-check short.Refused (AnsweredUpTo (tablesOf s) longest) shortWord refused-empty (short-shown (tablesOf s) longest) s
+          (word .answer) before after (word .checked));
       of-begin = λ s lamps. by-rules begin.Refused beginWord refused-empty (fileRules s) refl _ (begun-shown _);
       of-action = λ s m.
           by-rules action.Refused actionWord refused-empty _ refl _

@@ -14,9 +14,13 @@ use Rattle.lamp_walk.specs.declared.WalkAnswer.{WalkAnswer}
 use Rattle.lamp_walk.specs.declared.WalkAnswer.the-variants as walk
 use Rattle.line_run.specs.declared.RunAnswer.{RunAnswer}
 use Rattle.line_run.specs.declared.RunAnswer.the-variants as run
+use Rattle.plan_check.specs.declared.Failure.{Failure as FailedAnswer}
 use Rattle.plan_check.specs.declared.CheckAnswer.{CheckAnswer}
 use Rattle.plan_check.specs.declared.CheckAnswer.the-variants as check
 use Rattle.plan_check.specs.CheckAnswers.{Lent, Checked}
+use Rattle.plan_check.specs.declared.ShortAnswer.{ShortAnswer}
+use Rattle.plan_check.specs.declared.ShortAnswer.the-variants as short
+use Rattle.plan_check.specs.ShortAnswers.{CheckedUpTo}
 use Rattle.log_replay.specs.declared.ReplayAnswer.{ReplayAnswer}
 use Rattle.log_replay.specs.declared.ReplayAnswer.the-variants as replay
 use Rattle.log_replay.specs.ReplayAnswers.{Replayed}
@@ -54,6 +58,10 @@ endedCode = 7
 -- A log that no start and line give.
 abbrev pub impossibleCode : ℕ
 impossibleCode = 8
+
+-- A short check that finds no failing line. It is not the code of an accepted plan.
+abbrev pub noneUpToCode : ℕ
+noneUpToCode = 9
 
 -- A refused call of any operation. Nothing else has this code, so a caller who reads only the code cannot mistake a refusal for an answer.
 abbrev pub refusedCode : ℕ
@@ -103,10 +111,14 @@ runWord (run.Ended x k) = answerWord 0 (endingCode x) 0 0 k
 runWord (run.Stopped k) = answerWord 0 stoppedCode 0 0 k
 runWord (run.Refused number) = refusedWord number
 
--- After Accepted the count is the number of pairs. After Failed the state field holds the start, and the count is the number of lamps.
+-- A failure that a check names: the state field holds the start, and the count is the number of lamps.
+abbrev pub failedWord : FailedAnswer → ℕ
+failedWord f = answerWord 0 (kindNumber (f .kind)) (f .start .0) 0 (f .lamps)
+
+-- After Accepted the count is the number of pairs.
 abbrev pub checkWord : CheckAnswer → ℕ
 checkWord (check.Accepted count) = answerWord 0 goalCode 0 0 count
-checkWord (check.Failed f) = answerWord 0 (kindNumber (f .kind)) (f .start .0) 0 (f .lamps)
+checkWord (check.Failed f) = failedWord f
 checkWord (check.Refused number) = refusedWord number
 
 -- The contract of the exported check: r is the number for an answer that the check may give, with the lent buffers before and after.
@@ -114,6 +126,18 @@ pub record CheckedWord (s : List ℕ) (r : ℕ) (before after : Lent) : Type 0 w
   pub answer : CheckAnswer
   pub checked : Checked s answer before after
   pub as-number : r ≡ checkWord answer
+
+-- If no line fails, the count is the number of lamps up to which none does.
+abbrev pub shortWord : ShortAnswer → ℕ
+shortWord (short.NoneUpTo n) = answerWord 0 noneUpToCode 0 0 n
+shortWord (short.Failed f) = failedWord f
+shortWord (short.Refused number) = refusedWord number
+
+-- The contract of the exported short check: r is the number for an answer that it may give.
+pub record CheckedUpToWord (s : List ℕ) (longest r : ℕ) (before after : Lent) : Type 0 where
+  pub answer : ShortAnswer
+  pub checked : CheckedUpTo s longest answer before after
+  pub as-number : r ≡ shortWord answer
 
 -- A cabinet's state, with a code and the number of a refusal or 0.
 abbrev pub cabinetWord : ℕ → ℕ → Cabinet → ℕ

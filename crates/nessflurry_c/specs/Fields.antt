@@ -11,7 +11,7 @@ use Rattle.lamp_walk.specs.WalkAnswers.{walkAnswer}
 use Rattle.line_run.specs.RunAnswers.{runAnswer}
 use Rattle.plan_check.specs.CheckAnswers.{Lent}
 use Rattle.cabinet.specs.CabinetAnswers.{beginAnswer, actionAnswer, reportAnswer}
-use Rattle.nessflurry_c.specs.AnswerWords.{answerWord, refusedCode, readWord, walkWord, runWord, CheckedWord, beginWord, actionWord, reportWord, ReplayedWord}
+use Rattle.nessflurry_c.specs.AnswerWords.{answerWord, refusedCode, readWord, walkWord, runWord, CheckedWord, CheckedUpToWord, beginWord, actionWord, reportWord, ReplayedWord}
 
 -- ---- the fields, as the header extracts them
 
@@ -56,6 +56,7 @@ pub record RefusalsShown : Type 0 where
   pub of-walk : (s : List ℕ) (q : ProgramState) (w : WorldState) (column : ℕ) → RefusalShown (walkWord (walkAnswer s q w column))
   pub of-run : (s : List ℕ) (start : WorldState) (lamps : List ℕ) (limit : ℕ) → RefusalShown (runWord (runAnswer s start lamps limit))
   pub of-check : (s : List ℕ) (n : ℕ) (before after : Lent) → CheckedWord s n before after → RefusalShown n
+  pub of-check-up-to : (s : List ℕ) (longest n : ℕ) (before after : Lent) → CheckedUpToWord s longest n before after → RefusalShown n
   pub of-begin : (s : List ℕ) (lamps : ℕ) → RefusalShown (beginWord (beginAnswer s lamps))
   pub of-action : (s : List ℕ) (m : Cabinet) → RefusalShown (actionWord (actionAnswer s m))
   pub of-report : (s : List ℕ) (m : Cabinet) (result : ℕ) → RefusalShown (reportWord (reportAnswer s m result))

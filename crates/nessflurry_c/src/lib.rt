@@ -9,7 +9,7 @@ ghost use Rattle.job_file.specs.Reading.{readingOf};
 ghost use Rattle.lamp_walk.specs.WalkAnswers.{walkAnswer};
 ghost use Rattle.line_run.specs.RunAnswers.{runAnswer};
 ghost use Rattle.cabinet.specs.CabinetAnswers.{beginAnswer, actionAnswer, reportAnswer};
-ghost use Rattle.nessflurry_c.specs.AnswerWords.{readWord, headNumbers, headAfter, walkWord, runWord, CheckedWord, beginWord, actionWord, reportWord, ReplayedWord};
+ghost use Rattle.nessflurry_c.specs.AnswerWords.{readWord, headNumbers, headAfter, walkWord, runWord, CheckedWord, CheckedUpToWord, beginWord, actionWord, reportWord, ReplayedWord};
 ghost use Rattle.nessflurry_c.specs.Version.{version};
 use cabinet::begin;
 use cabinet::next_action;
@@ -24,6 +24,7 @@ use lamp_walk::walk_lamp;
 use line_run::run_line;
 use log_replay::replay_log;
 use plan_check::check_plan;
+use plan_check::check_up_to;
 use words::action_word;
 use words::begin_word;
 use words::check_word;
@@ -31,6 +32,7 @@ use words::read_word;
 use words::replay_word;
 use words::report_word;
 use words::run_word;
+use words::short_word;
 use words::walk_word;
 
 // The version of include/nessflurry.h.
@@ -111,6 +113,21 @@ pub extern "C" fn nessflurry_raw_check(
         (record { line = now (line .exit); list = now (list .exit); words = now (words .exit) }) ⌝ }
 {
     check_word(check_plan(file, line, list, words))
+}
+
+#[no_mangle]
+pub extern "C" fn nessflurry_raw_check_up_to(
+    file: &[u8],
+    longest: u16,
+    line: &mut [u8],
+    list: &mut [u32],
+    words: &mut [u64],
+) -> u64
+    ensures { λ r. ⌜ CheckedUpToWord (now (file .entry)) longest r
+        (record { line = now (line .entry); list = now (list .entry); words = now (words .entry) })
+        (record { line = now (line .exit); list = now (list .exit); words = now (words .exit) }) ⌝ }
+{
+    short_word(check_up_to(file, longest, line, list, words))
 }
 
 #[no_mangle]

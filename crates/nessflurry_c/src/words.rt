@@ -1,7 +1,7 @@
 // The answers of the operations as numbers for C: each function puts the fields of one operation's answer into one word.
 ghost use mathlib.Core.Path.{_≡_};
 ghost use Rattle.nessflurry_c.specs.AnswerWords.{answerWord, refusedWord, readWord, endingCode, walkWord, runWord};
-ghost use Rattle.nessflurry_c.specs.AnswerWords.{checkWord, cabinetWord, beginWord, actionWord, reportWord, replayWord};
+ghost use Rattle.nessflurry_c.specs.AnswerWords.{failedWord, checkWord, shortWord, cabinetWord, beginWord, actionWord, reportWord, replayWord};
 use cabinet::ActionAnswer;
 use cabinet::BeginAnswer;
 use cabinet::ReportAnswer;
@@ -13,6 +13,8 @@ use lamp_walk::WalkAnswer;
 use line_run::RunAnswer;
 use log_replay::ReplayAnswer;
 use plan_check::CheckAnswer;
+use plan_check::Failure;
+use plan_check::ShortAnswer;
 
 // The codes, besides 1 to 4, which are the numbers of the failure kinds.
 const GOAL: u8 = 0;
@@ -24,6 +26,8 @@ const ARRIVED: u8 = 6;
 const ENDED: u8 = 7;
 
 const IMPOSSIBLE: u8 = 8;
+
+const NONE_UP_TO: u8 = 9;
 
 const REFUSED: u8 = 255;
 
@@ -86,22 +90,37 @@ pub fn run_word(answer: RunAnswer) -> u64
     }
 }
 
+// A failure that a check names.
+fn failed_word(failure: Failure) -> u64
+    ensures { λ r. ⌜ r ≡ failedWord failure ⌝ }
+{
+    let kind = failure.kind;
+    answer_word(
+        0,
+        failure_number(kind),
+        failure.start.0,
+        0,
+        failure.lamps as u32,
+    )
+}
+
 pub fn check_word(answer: CheckAnswer) -> u64
     ensures { λ r. ⌜ r ≡ checkWord answer ⌝ }
 {
     match answer {
         CheckAnswer::Accepted(count) => answer_word(0, GOAL, 0, 0, count),
-        CheckAnswer::Failed(failure) => {
-            let kind = failure.kind;
-            answer_word(
-                0,
-                failure_number(kind),
-                failure.start.0,
-                0,
-                failure.lamps as u32,
-            )
-        }
+        CheckAnswer::Failed(failure) => failed_word(failure),
         CheckAnswer::Refused(number) => refused_word(number),
+    }
+}
+
+pub fn short_word(answer: ShortAnswer) -> u64
+    ensures { λ r. ⌜ r ≡ shortWord answer ⌝ }
+{
+    match answer {
+        ShortAnswer::NoneUpTo(longest) => answer_word(0, NONE_UP_TO, 0, 0, longest as u32),
+        ShortAnswer::Failed(failure) => failed_word(failure),
+        ShortAnswer::Refused(number) => refused_word(number),
     }
 }
 

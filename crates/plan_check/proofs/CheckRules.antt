@@ -21,17 +21,21 @@ use Rattle.job_file.proofs.WellFormed.{tables-are, well-formed-by}
 use Rattle.job_tables.proofs.Ranges.{states-are, worlds-are}
 use Rattle.lamp_line.specs.Tables.{Tables, columns}
 use Rattle.lamp_line.specs.Check.{Right}
+use Rattle.lamp_line.specs.inner.WellFormed.{WellFormed}
 use Rattle.lamp_line.proofs.Answering.{refusal-is, by-rule, by-no-rule}
+use Rattle.check_laws.specs.inner.Search.{verdictOf}
 use Rattle.check_laws.proofs.VerdictRight.{verdict-right}
+use Rattle.check_laws.proofs.UpTo.{beyond-exactly}
 use Rattle.lamp_fates.specs.inner.Memory.{memorySize}
 use Rattle.lamp_fates.proofs.BlankMemory.{entries-most}
 use Rattle.plan_search.specs.declared.Found.{Found}
 use Rattle.plan_search.specs.declared.Found.the-variants as found
-use Rattle.plan_search.specs.inner.Searching.{Room, verdictIn, Finds}
-use Rattle.plan_check.specs.declared.CheckAnswer.{CheckAnswer}
-use Rattle.plan_check.specs.declared.CheckAnswer.the-variants as answer
-use Rattle.plan_check.specs.CheckAnswers.{AnsweredRight, Lent, CheckedBy, Checked}
-use Rattle.plan_check.specs.inner.FoundAnswers.{checkAnswerOf}
+use Rattle.plan_search.specs.inner.Searching.{Room, Finds}
+use Rattle.plan_search.proofs.ListLaws.{pairs-few}
+use Rattle.plan_check.specs.declared.Outcome.{Outcome}
+use Rattle.plan_check.specs.declared.Outcome.the-variants as outcome
+use Rattle.plan_check.specs.CheckAnswers.{Lent, CheckedBy}
+use Rattle.plan_check.specs.inner.Outcomes.{outcomeOf, OutcomeRight, CheckedLines}
 
 -- ---- sizes
 
@@ -75,20 +79,36 @@ module _ (s : List ℕ) (lent : Lent) where
 
 -- ---- the answer
 
--- What the search finds is right: it is the verdict of the definition, which is right.
+-- What the search finds is right, since the verdict of its definition is.
 pub found-right :
-    (s : List ℕ) {j : Job} {f : Found} {line line′ : List ℕ} → Opened s j → Finds (tablesBy s j) f line line′ →
-    AnsweredRight (tablesOf s) (checkAnswerOf f) line line′
-unfolding AnsweredRight
-found-right s {j} {f} {line} {line′} opened finds =
-    subst (λ (t : Tables). AnsweredRight t (checkAnswerOf f) line line′) (tables-are s j opened)
-    (go f finds (rw (finds .verdict-is) at (verdict-right (tablesBy s j) (well-formed-by s j opened))))
+    (s : List ℕ) {j : Job} {longest : ℕ} {f : Found} {line line′ : List ℕ} → Opened s j → Finds (tablesBy s j) longest f line line′ →
+    OutcomeRight (tablesOf s) longest (outcomeOf f) line line′
+unfolding OutcomeRight Right
+found-right s {j} {longest} {f} {line} {line′} opened finds =
+    subst (λ (t : Tables). OutcomeRight t longest (outcomeOf f) line line′) (tables-are s j opened) (go f finds)
   where
-    go :
-        (f : Found) → Finds (tablesBy s j) f line line′ → Right (tablesBy s j) (verdictIn f line′) →
-        AnsweredRight (tablesBy s j) (checkAnswerOf f) line line′
-    go (found.Accepted count) finds right = (right, finds .others)
-    go (found.Failed kind start lamps) finds right = record { right = right; within = finds .within; others = finds .others }
+    wf : WellFormed (tablesBy s j)
+    wf = well-formed-by s j opened
+
+    right : Right (tablesBy s j) (verdictOf (tablesBy s j))
+    right = verdict-right (tablesBy s j) wf
+
+    go : (f : Found) → Finds (tablesBy s j) longest f line line′ → OutcomeRight (tablesBy s j) longest (outcomeOf f) line line′
+    go (found.NoneFails count) finds =
+        record {
+          none = beyond-exactly (tablesBy s j) wf longest (verdictOf (tablesBy s j)) right .0 (finds .so .none);
+          all = λ far. subst (Right (tablesBy s j)) (finds .so .all (omega (arith, pairs-few wf))) right;
+          unchanged = finds .others;
+        }
+    go (found.Fails kind start lamps) finds =
+        record {
+          failed-right = record {
+            right = subst (Right (tablesBy s j)) (finds .so .verdict-is) right;
+            within = finds .within;
+            others = finds .others;
+          };
+          up-to = finds .so .short;
+        }
 
 -- A file that is not refused, with lent buffers that are large enough.
 pub record Enough (s : List ℕ) (lent : Lent) (j : Job) : Type 0 where
@@ -100,9 +120,10 @@ pub record Enough (s : List ℕ) (lent : Lent) (j : Job) : Type 0 where
 module _ {s : List ℕ} {lent : Lent} {j : Job} (enough : Enough s lent j) where
   -- No refusal applies, so a right answer is what the contract asks for.
   pub right-checked :
-      (r : CheckAnswer) (after : Lent) → AnsweredRight (tablesOf s) r (lent .line) (after .line) → Checked s r lent after
-  right-checked r after right =
-      subst (λ (o : Option ℕ). CheckedBy o (tablesOf s) r lent after) (sym none-applies) right
+      (longest : ℕ) (r : Outcome) (after : Lent) → OutcomeRight (tablesOf s) longest r (lent .line) (after .line) → CheckedLines s longest r lent after
+  unfolding CheckedLines
+  right-checked longest r after right =
+      subst (λ (o : Option ℕ). CheckedBy outcome.Refused (OutcomeRight (tablesOf s) longest) o r lent after) (sym none-applies) right
     where
       none-applies : firstRefusal s lent ≡ none
       none-applies =
@@ -131,29 +152,31 @@ module _ {s : List ℕ} {lent : Lent} {j : Job} (enough : Enough s lent j) where
     pub size-bound : (j .states * j .worlds + j .worlds) * count ≤ 66560
     size-bound = rw size-is (entries-most (well-formed-by s j (enough .opened)))
 
-module _ (s : List ℕ) (lent : Lent) where
+module _ (s : List ℕ) (longest : ℕ) (lent : Lent) where
   -- The first rule that applies is the answer, and nothing is changed.
   refused-by :
-      {number : ℕ} → firstRefusal s lent ≡ some number → Checked s (answer.Refused number) lent lent
+      {number : ℕ} → firstRefusal s lent ≡ some number → CheckedLines s longest (outcome.Refused number) lent lent
+  unfolding CheckedLines
   refused-by {number} e =
-      subst (λ (o : Option ℕ). CheckedBy o (tablesOf s) (answer.Refused number) lent lent) (sym e) (refl, refl)
+      subst (λ (o : Option ℕ). CheckedBy outcome.Refused (OutcomeRight (tablesOf s) longest) o (outcome.Refused number) lent lent) (sym e)
+      (refl, refl)
 
   -- A refused file is answered with its refusal.
-  pub file-refused-checked : {number : ℕ} → readingOf s ≡ reading.Refused number → Checked s (answer.Refused number) lent lent
+  pub file-refused-checked : {number : ℕ} → readingOf s ≡ reading.Refused number → CheckedLines s longest (outcome.Refused number) lent lent
   file-refused-checked e = refused-by (check-file-refused s lent e)
 
   module _ {j : Job} (opened : Opened s j) where
     -- A line buffer that is too short is answered with 12.
-    pub buffer-refused : length (lent .line) < j .states * j .worlds + 1 → Checked s (answer.Refused 12) lent lent
+    pub buffer-refused : length (lent .line) < j .states * j .worlds + 1 → CheckedLines s longest (outcome.Refused 12) lent lent
     buffer-refused short = refused-by (check-by-rules s lent opened ∙ rw (lt-ltb _ _ short))
 
     module _ (enough : j .states * j .worlds + 1 ≤ length (lent .line)) where
       -- A working list that is too short is answered with 13.
-      pub list-refused : length (lent .list) < j .states * j .worlds + j .worlds → Checked s (answer.Refused 13) lent lent
+      pub list-refused : length (lent .list) < j .states * j .worlds + j .worlds → CheckedLines s longest (outcome.Refused 13) lent lent
       list-refused short = refused-by (check-by-rules s lent opened ∙ rw (le-ltb _ _ enough, lt-ltb _ _ short))
 
       -- So are too few words.
       pub words-refused :
           j .states * j .worlds + j .worlds ≤ length (lent .list) →
-          length (lent .words) < (j .states * j .worlds + j .worlds + 63) / 64 → Checked s (answer.Refused 13) lent lent
+          length (lent .words) < (j .states * j .worlds + j .worlds + 63) / 64 → CheckedLines s longest (outcome.Refused 13) lent lent
       words-refused listed short = refused-by (check-by-rules s lent opened ∙ rw (le-ltb _ _ enough, le-ltb _ _ listed, lt-ltb _ _ short))

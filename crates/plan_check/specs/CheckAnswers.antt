@@ -46,10 +46,12 @@ pub record Lent : Type 0 where
   pub list : List ℕ
   pub words : List ℕ
 
--- If a refusal applies, it is the answer, and no lent byte is changed; otherwise the answer is right.
-abbrev pub CheckedBy : Option ℕ → Tables → CheckAnswer → Lent → Lent → Type 0
-CheckedBy (some number) t r before after = (r ≡ answer.Refused number) × (after ≡ before)
-CheckedBy none t r before after = AnsweredRight t r (before .line) (after .line)
+-- If a refusal applies, it is the answer, and no lent byte is changed; otherwise the answer is right. The full and the short check have
+-- each their own type of answers, which is handed in with its refusals and with the answers that are right for the line buffer before and
+-- after.
+abbrev pub CheckedBy : {A : Type 0} → (ℕ → A) → (A → List ℕ → List ℕ → Type 0) → Option ℕ → A → Lent → Lent → Type 0
+CheckedBy refused IsRight (some number) r before after = (r ≡ refused number) × (after ≡ before)
+CheckedBy refused IsRight none r before after = IsRight r (before .line) (after .line)
 
 -- The refusal of a call with these buffers.
 abbrev pub checkRefusal : List ℕ → Lent → Option ℕ
@@ -57,4 +59,4 @@ checkRefusal s before = refusal (checkRules s (length (before .line)) (length (b
 
 -- The contract of the check, for the file's bytes, the answer, and the lent buffers before and after.
 abbrev pub Checked : List ℕ → CheckAnswer → Lent → Lent → Type 0
-Checked s r before after = CheckedBy (checkRefusal s before) (tablesOf s) r before after
+Checked s r before after = CheckedBy answer.Refused (AnsweredRight (tablesOf s)) (checkRefusal s before) r before after

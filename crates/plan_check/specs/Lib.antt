@@ -1,2 +1,3 @@
 pub mod CheckAnswers
+pub mod ShortAnswers
 pub mod inner

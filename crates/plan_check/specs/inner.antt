@@ -1,1 +1,1 @@
-pub mod FoundAnswers
+pub mod Outcomes

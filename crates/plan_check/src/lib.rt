@@ -1,6 +1,7 @@
 // The check (01, "The check"): does the plan reach the goal on all lines, however long, from all marked starts? `check_plan` is the
-// operation; it asks nothing of its caller. Its search remembers the fates of walks in a memory on the stack. The memory is small for a
-// small job, because clearing the largest one costs more than the whole check of such a job.
+// operation, and `check_up_to` is the short check (02, (b)), which looks at lines of up to a number of lamps only. Neither asks anything of
+// its caller. Both make the same search. It remembers the fates of walks in a memory on the stack. The memory is small for a small job,
+// because clearing the largest one costs more than the whole check of such a job.
 ghost use mathlib.Core.Path.{_≡_};
 ghost use Prim.Native.Nat.{_≤_};
 ghost use lib.ListN.{length};
@@ -8,8 +9,9 @@ ghost use Rattle.job_layout.specs.JobTables.{tablesBy, tablesOf};
 ghost use Rattle.job_file.specs.Reading.{Opened};
 ghost use Rattle.lamp_fates.specs.inner.Memory.{memorySize};
 ghost use Rattle.plan_search.specs.inner.Searching.{Room};
-ghost use Rattle.plan_check.specs.CheckAnswers.{AnsweredRight, Checked};
-ghost use Rattle.plan_check.specs.inner.FoundAnswers.{checkAnswerOf};
+ghost use Rattle.plan_check.specs.CheckAnswers.{Checked};
+ghost use Rattle.plan_check.specs.ShortAnswers.{CheckedUpTo};
+ghost use Rattle.plan_check.specs.inner.Outcomes.{outcomeOf, OutcomeRight, CheckedLines, fullAnswer, shortAnswer};
 use job_file::Reading;
 use job_file::read_job;
 use job_file::refusal_number;
@@ -35,19 +37,38 @@ pub enum CheckAnswer {
     Refused(u8),
 }
 
-// The check's answer for what the search found.
-fn answer(found: Found) -> CheckAnswer
-    ensures { λ r. ⌜ r ≡ checkAnswerOf found ⌝ }
+// The short check's answer. NoneUpTo holds the number of lamps up to which no line fails. There is no Accepted: the short check knows
+// nothing of longer lines.
+pub enum ShortAnswer {
+    NoneUpTo(u16),
+    Failed(Failure),
+    Refused(u8),
+}
+
+// What the search comes to, for either check: no line fails of those that it looks at, and so many pairs are reached; or a line fails; or
+// there is no search, because the call is refused.
+pub enum Outcome {
+    NoneFails(u32),
+    Fails(Failure),
+    Refused(u8),
+}
+
+// A number of lamps that no line has which the search tries: there are at most 4,160 pairs.
+const NO_BOUND: usize = 65536;
+
+// The outcome for what the search found.
+fn outcome_of(found: Found) -> Outcome
+    ensures { λ r. ⌜ r ≡ outcomeOf found ⌝ }
 {
     match found {
-        Found::Accepted(count) => CheckAnswer::Accepted(count),
-        Found::Failed(kind, start, lamps) => {
+        Found::NoneFails(count) => Outcome::NoneFails(count),
+        Found::Fails(kind, start, lamps) => {
             let failure = Failure {
                 kind: kind,
                 start: start,
                 lamps: lamps,
             };
-            CheckAnswer::Failed(failure)
+            Outcome::Fails(failure)
         }
     }
 }
@@ -56,79 +77,137 @@ fn answer(found: Found) -> CheckAnswer
 fn find_small(
     file: &[u8],
     job: Job,
+    longest: usize,
     line: &mut [u8],
     list: &mut [u32],
     words: &mut [u64],
-) -> CheckAnswer
+) -> Outcome
     requires { ⌜ Opened (now file) job
         × Room (tablesBy (now file) job) (length (now line)) (length (now list)) (length (now words))
         × (memorySize (tablesBy (now file) job) ≤ 256) ⌝ }
-    ensures { λ r. ⌜ AnsweredRight (tablesOf (now (file .entry))) r (now (line .entry)) (now (line .exit)) ⌝ }
+    ensures { λ r. ⌜ OutcomeRight (tablesOf (now (file .entry))) longest r (now (line .entry)) (now (line .exit)) ⌝ }
 {
     let mut memory = [0u16; 256];
-    answer(search(file, job, &mut memory, line, list, words))
+    outcome_of(search(file, job, longest, &mut memory, line, list, words))
 }
 
 // The search with a memory for jobs of middle size.
 fn find_middle(
     file: &[u8],
     job: Job,
+    longest: usize,
     line: &mut [u8],
     list: &mut [u32],
     words: &mut [u64],
-) -> CheckAnswer
+) -> Outcome
     requires { ⌜ Opened (now file) job
         × Room (tablesBy (now file) job) (length (now line)) (length (now list)) (length (now words))
         × (memorySize (tablesBy (now file) job) ≤ 8192) ⌝ }
-    ensures { λ r. ⌜ AnsweredRight (tablesOf (now (file .entry))) r (now (line .entry)) (now (line .exit)) ⌝ }
+    ensures { λ r. ⌜ OutcomeRight (tablesOf (now (file .entry))) longest r (now (line .entry)) (now (line .exit)) ⌝ }
 {
     let mut memory = [0u16; 8192];
-    answer(search(file, job, &mut memory, line, list, words))
+    outcome_of(search(file, job, longest, &mut memory, line, list, words))
 }
 
 // The search with a memory for every job: there are at most 65 times 64 pairs at 16 columns.
 fn find_large(
     file: &[u8],
     job: Job,
+    longest: usize,
     line: &mut [u8],
     list: &mut [u32],
     words: &mut [u64],
-) -> CheckAnswer
+) -> Outcome
     requires { ⌜ Opened (now file) job
         × Room (tablesBy (now file) job) (length (now line)) (length (now list)) (length (now words)) ⌝ }
-    ensures { λ r. ⌜ AnsweredRight (tablesOf (now (file .entry))) r (now (line .entry)) (now (line .exit)) ⌝ }
+    ensures { λ r. ⌜ OutcomeRight (tablesOf (now (file .entry))) longest r (now (line .entry)) (now (line .exit)) ⌝ }
 {
     let mut memory = [0u16; 66560];
-    answer(search(file, job, &mut memory, line, list, words))
+    outcome_of(search(file, job, longest, &mut memory, line, list, words))
 }
 
-// Checks the plan of any file, with a lent line buffer, working list and words of any size and content.
-pub fn check_plan(file: &[u8], line: &mut [u8], list: &mut [u32], words: &mut [u64]) -> CheckAnswer
-    ensures { λ r. ⌜ Checked (now (file .entry)) r
+// Checks the plan of any file on the lines of up to `longest` lamps, with a lent line buffer, working list and words of any size and content.
+fn check_lines(
+    file: &[u8],
+    longest: usize,
+    line: &mut [u8],
+    list: &mut [u32],
+    words: &mut [u64],
+) -> Outcome
+    ensures { λ r. ⌜ CheckedLines (now (file .entry)) longest r
         (record { line = now (line .entry); list = now (list .entry); words = now (words .entry) })
         (record { line = now (line .exit); list = now (list .exit); words = now (words .exit) }) ⌝ }
 {
     let reading = read_job(file);
     let Reading::Job(job) = reading else {
-        return CheckAnswer::Refused(refusal_number(reading));
+        return Outcome::Refused(refusal_number(reading));
     };
     let live = job.states as usize * job.worlds as usize;
     if line.len() < live + 1 {
-        return CheckAnswer::Refused(12);
+        return Outcome::Refused(12);
     }
     let pairs = live + job.worlds as usize;
     if list.len() < pairs {
-        return CheckAnswer::Refused(13);
+        return Outcome::Refused(13);
     }
     if words.len() < (pairs + 63) / 64 {
-        return CheckAnswer::Refused(13);
+        return Outcome::Refused(13);
     }
     let size = pairs * column_count(job.kinds) as usize;
     if size <= 256 {
-        return find_small(file, job, line, list, words);
+        return find_small(file, job, longest, line, list, words);
     }
     if size <= 8192 {
-        return find_middle(file, job, line, list, words);
+        return find_middle(file, job, longest, line, list, words);
     }
-    find_large(file, job, line, list, words)
+    find_large(file, job, longest, line, list, words)
+}
+
+// The answer of the full check.
+fn full_answer(outcome: Outcome) -> CheckAnswer
+    ensures { λ r. ⌜ r ≡ fullAnswer outcome ⌝ }
+{
+    match outcome {
+        Outcome::NoneFails(count) => CheckAnswer::Accepted(count),
+        Outcome::Fails(failure) => CheckAnswer::Failed(failure),
+        Outcome::Refused(number) => CheckAnswer::Refused(number),
+    }
+}
+
+// The answer of the short check.
+fn short_answer(longest: u16, outcome: Outcome) -> ShortAnswer
+    ensures { λ r. ⌜ r ≡ shortAnswer longest outcome ⌝ }
+{
+    match outcome {
+        Outcome::NoneFails(count) => ShortAnswer::NoneUpTo(longest),
+        Outcome::Fails(failure) => ShortAnswer::Failed(failure),
+        Outcome::Refused(number) => ShortAnswer::Refused(number),
+    }
+}
+
+// Checks the plan of any file on all lines.
+pub fn check_plan(file: &[u8], line: &mut [u8], list: &mut [u32], words: &mut [u64]) -> CheckAnswer
+    ensures { λ r. ⌜ Checked (now (file .entry)) r
+        (record { line = now (line .entry); list = now (list .entry); words = now (words .entry) })
+        (record { line = now (line .exit); list = now (list .exit); words = now (words .exit) }) ⌝ }
+{
+    full_answer(check_lines(file, NO_BOUND, line, list, words))
+}
+
+// Checks the plan of any file on the lines of up to `longest` lamps.
+pub fn check_up_to(
+    file: &[u8],
+    longest: u16,
+    line: &mut [u8],
+    list: &mut [u32],
+    words: &mut [u64],
+) -> ShortAnswer
+    ensures { λ r. ⌜ CheckedUpTo (now (file .entry)) longest r
+        (record { line = now (line .entry); list = now (list .entry); words = now (words .entry) })
+        (record { line = now (line .exit); list = now (list .exit); words = now (words .exit) }) ⌝ }
+{
+    short_answer(
+        longest,
+        check_lines(file, longest as usize, line, list, words),
+    )
 }

@@ -1,8 +1,8 @@
--- The two loops that go from a place back to place 0. The first counts the lamps of the place's lines; the second writes the lamps of
--- one of them, from the last to the first.
+-- The loop that goes from a place back to place 0 and writes the lamps of a line that is tried there, from the last to the first.
 use mathlib.Core.Path.{_≡_, refl, sym, ap, _∙_}
 use mathlib.Core.List.{List, [], _∷_, _++_}
 use Prim.Native.Nat.{ℕ, zero, suc, _+_, _-_, _≤_, _<_}
+use native.Mathlib.Decide.{decLt}
 use native.Mathlib.Numerals.{add-one}
 use native.Mathlib.Omega.{arith}
 use lib.ListN.{length, getD, set, drop, length-append, length-set}
@@ -63,76 +63,27 @@ module _ {list : List ℕ} {place : ℕ} (at : Later list place) where
     longer : (k : ℕ) → length (lineLamps E place k) ≡ length (lineLamps E (before .place) (before .label)) + 1
     longer k = ap length (lamps-back k) ∙ one-longer (lineLamps E (before .place) (before .label)) k
 
--- All lines that are tried at a place have the same number of lamps.
-same-count :
-    (worlds : ℕ) (list : List ℕ) → Chained list → (place : ℕ) → place ≤ length list → (k k′ : ℕ) →
-    length (lineLamps (entries worlds list) place k) ≡ length (lineLamps (entries worlds list) place k′)
-same-count worlds list chained place within k k′ = go place refl
+-- The lamps of a line do not depend on the number of world states by which pairs are numbered.
+pub same-lamps :
+    (worlds worlds′ : ℕ) (list : List ℕ) → Chained list → (most place k : ℕ) → place ≤ most → place ≤ length list →
+    lineLamps (entries worlds list) place k ≡ lineLamps (entries worlds′ list) place k
+same-lamps worlds worlds′ list chained zero place k few within =
+    let none : place ≡ 0 = omega arith in
+    first-place-lamps (entries worlds list) place k none ∙ sym (first-place-lamps (entries worlds′ list) place k none)
+same-lamps worlds worlds′ list chained (suc most) place k few within =
+    go (λ place k few within. same-lamps worlds worlds′ list chained most place k few within) (decLt 0 place)
   where
-    go : (i : ℕ) → place ≡ i → length (lineLamps (entries worlds list) place k) ≡ length (lineLamps (entries worlds list) place k′)
-    go zero e =
-        ap length (first-place-lamps (entries worlds list) place k e ∙ sym (first-place-lamps (entries worlds list) place k′ e))
-    go (suc i) e =
-        let at : Later list place = record { chained = chained; later = omega arith; within = within } in
-        longer at worlds k ∙ sym (longer at worlds k′)
+    Same : ℕ → ℕ → Type 0
+    Same place k = lineLamps (entries worlds list) place k ≡ lineLamps (entries worlds′ list) place k
 
--- ---- counting
-
--- From the place `from` the loop has gone back to `place`, and has counted `lamps` lamps on the way.
-pub record Counting (list : List ℕ) (from place lamps : ℕ) : Type 0 where
-  pub chained : Chained list
-  pub short : length list ≤ 4160
-  pub within : place ≤ length list
-  pub began : from ≤ length list
-  -- The lamps counted and those of the lines of this place make up the whole line.
-  pub owed :
-      (worlds label label′ : ℕ) →
-      lamps + length (lineLamps (entries worlds list) place label) ≡ length (lineLamps (entries worlds list) from label′)
-  -- Each lamp counted is at least one place back.
-  pub few : lamps + place ≤ from
-
--- Before the first step back no lamp is counted.
-pub counting-starts : {list : List ℕ} {from : ℕ} → Chained list → from ≤ length list → length list ≤ 4160 → Counting list from from 0
-counting-starts {list} {from} chained h short =
-    record {
-      chained = chained;
-      short = short;
-      within = h;
-      began = h;
-      owed = λ worlds label label′. omega (arith, same-count worlds list chained from h label label′);
-      few = omega arith;
-    }
-
-module _ {list : List ℕ} {from place lamps : ℕ} (counting : Counting list from place lamps) where
-  -- At a place other than 0 one lamp is counted, and the loop goes on at the earlier place at which the pair of this place was found.
-  pub counts-on :
-      0 < place → {p : Placed} → p ≡ unpacked (getD list (place - 1) 0) →
-      (p .place < place) × Counting list from (p .place) (lamps + 1)
-  counts-on later is =
-      let at : Later list place = record { chained = counting .chained; later = later; within = counting .within } in
-      let back = earlier at in
-      let within : before at .place ≤ length list = omega (arith, counting .within) in
-      rw is (
-        omega arith,
-        record {
-          chained = counting .chained;
-          short = counting .short;
-          within = within;
-          began = counting .began;
-          owed = λ worlds label label′. omega (
-            arith,
-            counting .owed worlds label label′,
-            longer at worlds label,
-            same-count worlds list (counting .chained) (before at .place) within label (before at .label),
-          );
-          few = omega (arith, counting .few);
-        },
-      )
-
-  -- At place 0 all lamps are counted.
-  pub counted : place ≡ 0 → (worlds label : ℕ) → lamps ≡ length (lineLamps (entries worlds list) from label)
-  counted none worlds label =
-      omega (arith, counting .owed worlds 0 label, ap length (first-place-lamps (entries worlds list) place 0 none))
+    go : ((place k : ℕ) → place ≤ most → place ≤ length list → Same place k) → Dec (0 < place) → Same place k
+    go sooner (yes later) =
+        let at : Later list place = record { chained = chained; later = later; within = within } in
+        let p = before at in
+        let back = earlier at in
+        lamps-back at worlds k ∙ ap (λ (l : List ℕ). l ▸ k) (sooner (p .place) (p .label) (omega arith) (omega arith))
+        ∙ sym (lamps-back at worlds′ k)
+    go sooner (no later) = sooner place k (omega arith) within
 
 -- ---- writing
 
@@ -154,14 +105,14 @@ pub record Writing (list line₀ : List ℕ) (from label lamps : ℕ) (line : Li
 -- Before the first lamp is written the whole line is left.
 pub writing-starts :
     {list line : List ℕ} {from label lamps : ℕ} → Chained list → from ≤ length list → length list ≤ 4160 → lamps ≤ length line →
-    ((worlds label : ℕ) → lamps ≡ length (lineLamps (entries worlds list) from label)) →
+    ((worlds : ℕ) → lamps ≡ length (lineLamps (entries worlds list) from label)) →
     Writing list line from label lamps line from label lamps
-writing-starts {label = label} chained within short room e =
+writing-starts chained within short room e =
     record {
       chained = chained;
       short = short;
       within = within;
-      left = λ worlds. e worlds label;
+      left = e;
       room = room;
       same-length = refl;
       same-start = λ worlds. refl;

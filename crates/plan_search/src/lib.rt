@@ -1,6 +1,7 @@
 // The search of the check (01, "The check"). It goes through places. At place 0 it tries the empty line from each start. Every further
 // place belongs to a pair of the working list, and there it tries that pair's line with one lamp more, of each kind. A new pair is put
-// in the list, unless the line that ends with it fails. The search stops at a line that fails, or when no place is left.
+// in the list, unless the line that ends with it fails. The search stops at a line that fails, when no place is left, or before it would
+// try a line with more lamps than it was asked for (02, (b)).
 ghost use mathlib.Core.Path.{_≡_};
 ghost use mathlib.Core.Bool.{_&&_};
 ghost use mathlib.Core.List.{List};
@@ -14,7 +15,6 @@ ghost use Rattle.run_laws.specs.inner.Pairs.{pairs};
 ghost use Rattle.pair_bits.specs.inner.Bits.{bitAt};
 ghost use Rattle.check_laws.specs.inner.Search.{firstLabel, labels};
 ghost use Rattle.plan_search.specs.inner.Searching.{table, Listed, Ready, HasLabel, Begins, Tries, Turned, Searched, Room, Finds};
-use crate::line::lamps_at;
 use crate::line::write_line;
 use crate::list::pack;
 use crate::list::unpack;
@@ -63,17 +63,17 @@ pub enum TurnEnd {
     Holds(usize),
 }
 
-// Where the search ends: no line fails, and this many pairs are reached; or a line fails. Then it answers the failure kind, the number
-// of pairs in the list, and the place and the label at which the line was tried.
+// Where the search ends: no line fails, and this many pairs are in the list; or a line fails. Then it answers the failure kind, the number
+// of pairs in the list, the place and the label at which the line was tried, and the line's number of lamps.
 pub enum SearchEnd {
-    Through(u32),
-    AtLine(FailureKind, usize, usize, u8),
+    NoneFails(u32),
+    AtLine(FailureKind, usize, usize, u8, usize),
 }
 
-// What the search finds: the number of pairs reached, or the failure kind with the start and the number of lamps of its line.
+// What the search finds: no failure, and this number of pairs; or the failure kind with the start and the number of lamps of its line.
 pub enum Found {
-    Accepted(u32),
-    Failed(FailureKind, WorldState, u16),
+    NoneFails(u32),
+    Fails(FailureKind, WorldState, u16),
 }
 
 // Where the last stretch begins of the line that is tried at a place with a label. At place 0 the line is empty. At every other place
@@ -215,22 +215,27 @@ fn last_label(job: Job, place: usize) -> u8
     job.kinds
 }
 
-// Tries place after place with all its labels.
+// Tries place after place with all its labels. The places come in layers: the lines that are tried at this place, and at those after it
+// up to `layer`, have `lamps` lamps. The pairs found meanwhile have the places of the next layer, whose lines have one lamp more; it is
+// not begun if that is more than `longest`.
 fn search_places(
     file: &[u8],
     job: Job,
+    longest: usize,
     memory: &mut [u16],
     list: &mut [u32],
     words: &mut [u64],
 ) -> SearchEnd
     requires { ⌜ Ready (now file) job (now memory) × (pairs (tablesBy (now file) job) ≤ length (now list))
         × (pairs (tablesBy (now file) job) ≤ length (now words) * 64) ⌝ }
-    ensures { λ r. ⌜ Searched (tablesBy (now (file .entry)) job) r (now (list .exit)) ⌝ }
+    ensures { λ r. ⌜ Searched (tablesBy (now (file .entry)) job) longest r (now (list .exit)) ⌝ }
 {
     let pairs = (job.states as usize + 1) * job.worlds as usize;
     clear_bits(words, pairs);
     let mut count = 0;
     let mut place = 0;
+    let mut layer = 0;
+    let mut lamps = 0;
     let halted = 'search: loop {
         let last = last_label(job, place);
         let mut label = first_label(place);
@@ -242,6 +247,7 @@ fn search_places(
                     count,
                     place,
                     label,
+                    lamps,
                 ),
                 TurnEnd::Holds(n) => {
                     count = n;
@@ -249,20 +255,26 @@ fn search_places(
             }
             label += 1;
         }
-        if count <= place {
-            break 'search SearchEnd::Through(count_bits(words, pairs));
+        if place == layer {
+            if count == layer || longest < lamps + 1 {
+                break 'search SearchEnd::NoneFails(count_bits(words, pairs));
+            }
+            layer = count;
+            lamps += 1;
         }
         place += 1;
     };
     halted
 }
 
-// The search of the check: the number of pairs reached if no line fails, else the first failure, whose line is written at the front of
-// the line buffer. It is for the crates above and not for users: it asks for the job that the reader answered for this file, for a
-// memory of fates in its tables, and for buffers with room.
+// The search of both checks, among the lines of up to `longest` lamps: the first failure, whose line is written at the front of the line
+// buffer; or, if none of these lines fails, the number of pairs that they reach. Where `longest` is at least the number of all pairs, it
+// is no bound, and these are all lines. The function is for the crates above and not for users: it asks for the job that the reader
+// answered for this file, for a memory of fates in its tables, and for buffers with room.
 pub fn search(
     file: &[u8],
     job: Job,
+    longest: usize,
     memory: &mut [u16],
     line: &mut [u8],
     list: &mut [u32],
@@ -270,15 +282,14 @@ pub fn search(
 ) -> Found
     requires { ⌜ Ready (now file) job (now memory)
         × Room (tablesBy (now file) job) (length (now line)) (length (now list)) (length (now words)) ⌝ }
-    ensures { λ r. ⌜ Finds (tablesBy (now (file .entry)) job) r (now (line .entry)) (now (line .exit)) ⌝ }
+    ensures { λ r. ⌜ Finds (tablesBy (now (file .entry)) job) longest r (now (line .entry)) (now (line .exit)) ⌝ }
 {
-    let halted = search_places(file, job, memory, list, words);
+    let halted = search_places(file, job, longest, memory, list, words);
     match halted {
-        SearchEnd::Through(count) => Found::Accepted(count),
-        SearchEnd::AtLine(failure, count, place, label) => {
-            let lamps = lamps_at(&list[..count], place);
+        SearchEnd::NoneFails(count) => Found::NoneFails(count),
+        SearchEnd::AtLine(failure, count, place, label, lamps) => {
             let start = write_line(&list[..count], line, place, label, lamps);
-            Found::Failed(failure, start, lamps as u16)
+            Found::Fails(failure, start, lamps as u16)
         }
     }
 }

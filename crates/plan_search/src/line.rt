@@ -7,25 +7,10 @@ ghost use Rattle.plan_search.specs.inner.Placing.{entries, Chained, Writ
 use crate::list::unpack;
 use lamp_line::WorldState;
 
-// The number of lamps of the lines that are tried at a place: it is the same for every label.
-pub fn lamps_at(list: &[u32], from: usize) -> usize
-    requires { ⌜ Chained (now list) × (from ≤ length (now list)) × (length (now list) ≤ 4160) ⌝ }
-    ensures { λ r. ⌜ ((worlds label : ℕ) → r ≡ length (lineLamps (entries worlds (now (list .entry))) from label)) ⌝ }
-{
-    let mut place = from;
-    let mut lamps: usize = 0;
-    while 0 < place {
-        let before = unpack(list[place - 1]);
-        place = before.place;
-        lamps += 1;
-    }
-    lamps
-}
-
 // Writes the line that is tried at a place with a label at the front of the buffer, its last lamp first; answers its start.
 pub fn write_line(list: &[u32], line: &mut [u8], from: usize, label: u8, lamps: usize) -> WorldState
     requires { ⌜ Chained (now list) × (from ≤ length (now list)) × (length (now list) ≤ 4160) × (lamps ≤ length (now line))
-        × ((worlds label : ℕ) → lamps ≡ length (lineLamps (entries worlds (now list)) from label)) ⌝ }
+        × ((worlds : ℕ) → lamps ≡ length (lineLamps (entries worlds (now list)) from label)) ⌝ }
     ensures { λ r. ⌜ ((worlds : ℕ) → Written (entries worlds (now (list .entry))) from label lamps (now (line .entry)) r (now (line .exit))) ⌝ }
 {
     let mut place = from;

@@ -5,7 +5,7 @@
 -- answer.
 use mathlib.Core.Bool.{Bool, true, false, _||_}
 use mathlib.Core.List.{List, [], _∷_}
-use Prim.Native.Nat.{ℕ, zero, suc, _+_, _*_}
+use Prim.Native.Nat.{ℕ, zero, suc, _+_, _*_, _<_}
 use lib.Dec.{eqb, leb}
 use lib.ListN.{length}
 use Rattle.lamp_line.specs.declared.FailureKind.{FailureKind}
@@ -63,6 +63,11 @@ firstLabel (suc h) = 1
 abbrev pub conclusion : Turn → Verdict
 conclusion (answers v) = v
 conclusion (goes-on E) = accepted (length E)
+
+-- The verdict names no line of up to this many lamps.
+abbrev pub Beyond : ℕ → Verdict → Type 0
+Beyond longest (accepted count) = Unit {0}
+Beyond longest (failed kind start line) = longest < length (line .lamps)
 
 module _ (t : Tables) where
   -- A line has arrived with the pair of this entry.

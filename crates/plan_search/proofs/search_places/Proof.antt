@@ -1,35 +1,37 @@
 -- The invariants are `AtPlace` and `AtLabel`: the answer is what the rest of the search gives. The measures are the labels and the
 -- places left.
 use borrow.Author.Needs.{needs}
+use borrow.Author.Tests.{ltb-true, ltb-false}
 use mathlib.Core.Path.{_≡_, refl, _∙_}
+use mathlib.Core.Logic.{⊎-elim}
 use native.Mathlib.Omega.{arith}
 use Prim.Native.Nat.{_+_, _-_}
 use lib.ListN.{length}
 use Rattle.plan_search.proofs.ListLaws.{ready-tables, pairs-few}
-use Rattle.plan_search.proofs.SearchLoops.{AtPlace, AtLabel, turned-as, search-begins, place-begun, count-few, label-here, label-few}
-use Rattle.plan_search.proofs.SearchLoops.{label-held, label-failed, next-place, all-through}
+use Rattle.plan_search.proofs.SearchLoops.{AtPlace, AtLabel, turned-as, search-begins, place-begun, count-few, layer-held}
+use Rattle.plan_search.proofs.SearchLoops.{label-here, label-few, label-held, label-failed, place-in-layer, place-in-next, through, stopped}
 use Rattle.plan_search.proofs.search_places.Statement.{statement}
 use Rattle.plan_search.proofs.search_places.Tie as tie
 
 abbrev Inv-loop : tie.InvT-loop
-Inv-loop file job memory₀ list₀ words₀ pairs count₀ place last label₀ memory list words count label =
-    AtLabel file job memory list words count place last label
+Inv-loop file job longest memory₀ list₀ words₀ pairs count₀ place layer lamps last label₀ memory list words count label =
+    AtLabel file job longest memory list words count place layer lamps last label
     × (length memory ≡ length memory₀)
     × (length list ≡ length list₀)
     × (length words ≡ length words₀)
 
 abbrev μ-loop : tie.MeasureT-loop
-μ-loop file job memory₀ list₀ words₀ pairs count₀ place last label₀ memory list words count label = last + 1 - label
+μ-loop file job longest memory₀ list₀ words₀ pairs count₀ place layer lamps last label₀ memory list words count label = last + 1 - label
 
 abbrev Inv-search : tie.InvT-search
-Inv-search file job memory₀ list₀ words₀ pairs count₀ place₀ memory list words count place =
-    AtPlace file job memory list words count place
+Inv-search file job longest memory₀ list₀ words₀ pairs count₀ place₀ layer₀ lamps₀ memory list words count place layer lamps =
+    AtPlace file job longest memory list words count place layer lamps
     × (length memory ≡ length memory₀)
     × (length list ≡ length list₀)
     × (length words ≡ length words₀)
 
 abbrev μ-search : tie.MeasureT-search
-μ-search file job memory₀ list₀ words₀ pairs count₀ place₀ memory list words count place = 4161 - place
+μ-search file job longest memory₀ list₀ words₀ pairs count₀ place₀ layer₀ lamps₀ memory list words count place layer lamps = 4161 - place
 
 -- ---- earlier points of the function
 
@@ -50,6 +52,10 @@ at-turn k = k .before .before .before .before .before .before
 
 abbrev at-label : tie.After-one-turn Inv-loop μ-loop Inv-search μ-search → tie.In-loop Inv-loop μ-loop Inv-search μ-search
 at-label o = o .before .before .before .before
+
+-- From the end of a layer to the end of the loop over labels.
+abbrev at-end : tie.Joined2 Inv-loop μ-loop Inv-search μ-search → tie.After-loop Inv-loop μ-loop Inv-search μ-search
+at-end j = j .before .before
 
 -- ---- the answers
 
@@ -72,7 +78,7 @@ search-holds : tie.Need-search-holds Inv-loop μ-loop Inv-search μ-search
 search-holds c =
     let k = c .before .before in
     let b = start (k .before .before .before) in
-    (search-begins (b .pre .0) (k .clear-bits .ensures) (b .pre .1) (omega (arith, b .pre .2, k .clear-bits .kept .0)), refl, refl, refl)
+    (search-begins _ (b .pre .0) (k .clear-bits .ensures) (b .pre .1) (omega (arith, b .pre .2, k .clear-bits .kept .0)), refl, refl, refl)
 
 last-label-requires : tie.Need-last-label-requires Inv-loop μ-loop Inv-search μ-search
 last-label-requires c κs = ready-tables (c .search .inv .0 .ready) .worlds-range .0
@@ -118,23 +124,44 @@ loop-again c =
       o .one-turn .kept .1 .1 .1 .1 .0 ∙ l .3,
     )
 
+add-if3 : tie.Need-add-if3 Inv-loop μ-loop Inv-search μ-search
+add-if3 c =
+    let at = c .before .before .before .loop .inv .0 in
+    omega (arith, at .layered .few, at .layered .within, layer-held at, count-few at)
+
 count-bits-requires : tie.Need-count-bits-requires Inv-loop μ-loop Inv-search μ-search
 count-bits-requires c κs =
-    let at = c .before .before .before .loop .inv .0 in
+    let at = at-end (c .before) .before .loop .inv .0 in
     (at .listed .bits-room, pairs-few (ready-tables (at .ready)))
 
+add-lamps : tie.Need-add-lamps Inv-loop μ-loop Inv-search μ-search
+add-lamps c =
+    let at = c .before .before .before .before .loop .inv .0 in
+    omega (arith, at .layered .few, at .layered .within, layer-held at, count-few at)
+
 add-place : tie.Need-add-place Inv-loop μ-loop Inv-search μ-search
-add-place c = omega (arith, c .if1 .left, count-few (c .before .before .loop .inv .0))
+add-place c = let at = c .before .before .loop .inv .0 in omega (arith, at .layered .within, layer-held at, count-few at)
 
 search-less : tie.Need-search-less Inv-loop μ-loop Inv-search μ-search
-search-less c = omega (arith, c .if1 .left, count-few (c .before .before .loop .inv .0))
+search-less c = let at = c .before .before .loop .inv .0 in omega (arith, at .layered .within, layer-held at, count-few at)
 
 search-again : tie.Need-search-again Inv-loop μ-loop Inv-search μ-search
 search-again c =
     let e = c .before in
     let l = e .before .loop .inv in
     let s = at-search (e .before) .search .inv in
-    (next-place (l .0) (omega (arith, e .loop-test .left)) (c .if1 .left), l .1 ∙ s .1, l .2 ∙ s .2, l .3 ∙ s .3)
+    let at = l .0 in (
+      ⊎-elim
+          (λ (end, more, short, layer-is, lamps-is).
+          rw (layer-is, lamps-is)
+          (place-in-next at (omega (arith, e .loop-test .left)) (end .taken) (more .left) (ltb-false _ _ (short .left)) (omega arith)))
+          (λ (inside, layer-is, lamps-is).
+          rw (layer-is, lamps-is) (place-in-layer at (omega (arith, e .loop-test .left)) (omega (arith, inside .left, at .layered .within))))
+          (c .if1 .came),
+      l .1 ∙ s .1,
+      l .2 ∙ s .2,
+      l .3 ∙ s .3,
+    )
 
 same-length : tie.Need-same-length Inv-loop μ-loop Inv-search μ-search
 same-length c =
@@ -164,22 +191,30 @@ returns c =
     (turned-as (o .one-turn .ensures .0) (n .turn .given .1))
 
 same-length-4 : tie.Need-same-length-4 Inv-loop μ-loop Inv-search μ-search
-same-length-4 c = let l = c .before .before .before .before in l .loop .inv .1 ∙ at-search l .search .inv .1
+same-length-4 c = let l = at-end (c .before .before) .before in l .loop .inv .1 ∙ at-search l .search .inv .1
 
 same-length-5 : tie.Need-same-length-5 Inv-loop μ-loop Inv-search μ-search
-same-length-5 c = let l = c .before .before .before .before in l .loop .inv .2 ∙ at-search l .search .inv .2
+same-length-5 c = let l = at-end (c .before .before) .before in l .loop .inv .2 ∙ at-search l .search .inv .2
 
 same-length-6 : tie.Need-same-length-6 Inv-loop μ-loop Inv-search μ-search
 same-length-6 c =
-    let l = c .before .before .before .before in
+    let l = at-end (c .before .before) .before in
     let s = at-search l in
     l .loop .inv .3 ∙ s .search .inv .3 ∙ at-clear s .clear-bits .kept .0
 
 returns-2 : tie.Need-returns-2 Inv-loop μ-loop Inv-search μ-search
 returns-2 c =
-    let z = c .before .before in
-    let e = z .before in
-    all-through (e .before .loop .inv .0) (omega (arith, e .loop-test .left)) (z .if1 .taken) (c .count-bits .ensures)
+    let j = c .before .before in
+    let e = at-end j in
+    let at = e .before .loop .inv .0 in
+    let end = j .before .if1 .taken in
+    record {
+      so =
+          ⊎-elim (λ none. through at (omega (arith, e .loop-test .left)) end (c .count-bits .ensures) (none .taken))
+          (λ (more, long).
+          stopped at (omega (arith, e .loop-test .left)) end (c .count-bits .ensures) (more .left) (ltb-true _ _ (long .taken)) (omega arith))
+          (j .if2 .came);
+    }
 
 pub search-places-spec : {M : Type 1} → statement M
 search-places-spec =
@@ -204,7 +239,9 @@ search-places-spec =
     add-label
     loop-less
     loop-again
+    add-if3
     count-bits-requires
+    add-lamps
     add-place
     search-less
     search-again

@@ -7,7 +7,9 @@ use Prim.Native.Nat.{ℕ, suc, _+_, _*_, _≤_, _<_}
 use lib.ListN.{length, getD, take, drop}
 use Rattle.lamp_line.specs.Tables.{Tables, worldState, columns}
 use Rattle.lamp_line.specs.Run.{Pair, pair}
-use Rattle.lamp_line.specs.Check.{Verdict, accepted, failed}
+use Rattle.lamp_line.specs.declared.FailureKind.{FailureKind}
+use Rattle.lamp_line.specs.declared.WorldState.{WorldState}
+use Rattle.lamp_line.specs.Check.{accepted, failed}
 use Rattle.job_layout.specs.declared.Job.{Job}
 use Rattle.job_layout.specs.JobTables.{tablesBy}
 use Rattle.job_file.specs.Reading.{Opened}
@@ -18,7 +20,7 @@ use Rattle.lamp_fates.specs.inner.Memory.{Memory}
 use Rattle.search_laws.specs.inner.Entries.{Entry, grown}
 use Rattle.check_laws.specs.inner.Fates.{fate}
 use Rattle.check_laws.specs.inner.Search as search
-use Rattle.check_laws.specs.inner.Search.{goes-on, met, failing, lineStart, lineLamps, lineEntry, firstLabel, visit, atLamp, tried, labels, verdictOf}
+use Rattle.check_laws.specs.inner.Search.{goes-on, met, failing, lineStart, lineLamps, lineEntry, firstLabel, visit, atLamp, tried, labels, Beyond, verdictOf}
 use Rattle.plan_search.specs.declared.Stretch.{Stretch}
 use Rattle.plan_search.specs.declared.Stretch.the-variants.{Nowhere, From}
 use Rattle.plan_search.specs.declared.Tried.{Tried}
@@ -26,9 +28,9 @@ use Rattle.plan_search.specs.declared.Tried.the-variants as tried-as
 use Rattle.plan_search.specs.declared.TurnEnd.{TurnEnd}
 use Rattle.plan_search.specs.declared.TurnEnd.the-variants.{Fails, Holds}
 use Rattle.plan_search.specs.declared.SearchEnd.{SearchEnd}
-use Rattle.plan_search.specs.declared.SearchEnd.the-variants.{Through, AtLine}
+use Rattle.plan_search.specs.declared.SearchEnd.the-variants.{NoneFails, AtLine}
 use Rattle.plan_search.specs.declared.Found.{Found}
-use Rattle.plan_search.specs.declared.Found.the-variants.{Accepted, Failed}
+use Rattle.plan_search.specs.declared.Found.the-variants as found
 use Rattle.plan_search.specs.inner.Placing.{unpacked, placedPair, entries, Chained}
 
 -- The entries of the first n words of the list.
@@ -115,29 +117,32 @@ pub record Turned (t : Tables) (list : List ℕ) (n place label : ℕ) (r : Turn
   pub turn-is : tried t (table t list n) place label ≡ turnIs t r (table t list n) place label list′
   pub left : Left t r n list list′ words′
 
--- The verdict, by the answer of `search_places`: no line fails, or the line that was tried at a place with a label does.
-abbrev pub haltIs : Tables → SearchEnd → List ℕ → Verdict
-haltIs t (Through count) list = accepted count
-haltIs t (AtLine kind n place label) list =
-    failed kind (worldState (lineStart (table t list n) place label)) (lineOf 0 (lineLamps (table t list n) place label))
+-- No line of up to `longest` lamps fails. If this is no bound, none fails at all, and this many pairs are reached.
+pub record NoneMet (t : Tables) (longest count : ℕ) : Type 0 where
+  pub none : Beyond longest (verdictOf t)
+  pub all : pairs t ≤ longest → verdictOf t ≡ accepted count
 
--- What is needed to read a line off the list: it holds n pairs, each found at place 0 or at the place of a pair before it, and the
--- line's place is among theirs.
-pub record Names (list : List ℕ) (n place : ℕ) : Type 0 where
+-- The line that was tried at a place with a label fails, and it has this number of lamps. What is needed to read it off the list: it
+-- holds n pairs, each found at place 0 or at the place of a pair before it, and the line's place is among theirs.
+pub record LineMet (t : Tables) (longest : ℕ) (kind : FailureKind) (list : List ℕ) (n place label lamps : ℕ) : Type 0 where
+  pub verdict-is :
+      verdictOf t
+      ≡ failed kind (worldState (lineStart (table t list n) place label)) (lineOf 0 (lineLamps (table t list n) place label))
+  pub lamps-are : lamps ≡ length (lineLamps (table t list n) place label)
+  pub short : lamps ≤ longest
   pub within : place ≤ n
   pub few : n ≤ 4160
   pub room : n ≤ length list
   pub chained : Chained (take n list)
 
--- What the list is good for afterwards: if a line fails, that line can be read off it.
-abbrev pub HaltLeft : SearchEnd → List ℕ → Type 0
-HaltLeft (Through count) list = Unit {0}
-HaltLeft (AtLine kind n place label) list = Names list n place
+-- What the answer of `search_places` says, with the list that it left.
+abbrev SearchedSo : Tables → ℕ → SearchEnd → List ℕ → Type 0
+SearchedSo t longest (NoneFails count) list = NoneMet t longest count
+SearchedSo t longest (AtLine kind n place label lamps) list = LineMet t longest kind list n place label lamps
 
 -- `search_places` answered r and left this list.
-pub record Searched (t : Tables) (r : SearchEnd) (list : List ℕ) : Type 0 where
-  pub verdict-is : verdictOf t ≡ haltIs t r list
-  pub left : HaltLeft r list
+pub record Searched (t : Tables) (longest : ℕ) (r : SearchEnd) (list : List ℕ) : Type 0 where
+  pub so : SearchedSo t longest r list
 
 -- ---- the whole search
 
@@ -147,18 +152,23 @@ pub record Room (t : Tables) (line list words : ℕ) : Type 0 where
   pub list-room : pairs t ≤ list
   pub words-room : pairs t ≤ words * 64
 
--- What was found, with the failing line at the front of the line buffer.
-abbrev pub verdictIn : Found → List ℕ → Verdict
-verdictIn (Accepted count) line = accepted count
-verdictIn (Failed kind start lamps) line = failed kind start (lineOf 0 (take lamps line))
+-- The failing line is at the front of the line buffer, and has at most `longest` lamps.
+pub record LineFound (t : Tables) (longest : ℕ) (kind : FailureKind) (start : WorldState) (lamps : ℕ) (line : List ℕ) : Type 0 where
+  pub verdict-is : verdictOf t ≡ failed kind start (lineOf 0 (take lamps line))
+  pub short : lamps ≤ longest
+
+-- What was found, with the line buffer afterwards.
+abbrev pub FindsSo : Tables → ℕ → Found → List ℕ → Type 0
+FindsSo t longest (found.NoneFails count) line = NoneMet t longest count
+FindsSo t longest (found.Fails kind start lamps) line = LineFound t longest kind start lamps line
 
 -- How many bytes of the line buffer are written.
 abbrev pub writtenBy : Found → ℕ
-writtenBy (Accepted count) = 0
-writtenBy (Failed kind start lamps) = lamps
+writtenBy (found.NoneFails count) = 0
+writtenBy (found.Fails kind start lamps) = lamps
 
--- The answer is the definition's, and the bytes of the line buffer after the line are as before.
-pub record Finds (t : Tables) (r : Found) (line line′ : List ℕ) : Type 0 where
-  pub verdict-is : verdictOf t ≡ verdictIn r line′
+-- The answer is that of the search's definition, and the bytes of the line buffer after the line are as before.
+pub record Finds (t : Tables) (longest : ℕ) (r : Found) (line line′ : List ℕ) : Type 0 where
+  pub so : FindsSo t longest r line′
   pub within : writtenBy r ≤ length line′
   pub others : drop (writtenBy r) line′ ≡ drop (writtenBy r) line

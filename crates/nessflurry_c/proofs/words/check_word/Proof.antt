@@ -1,4 +1,4 @@
--- Each case is computed as the definition says.
+-- Each answer's fields are those of its definition.
 use borrow.Author.Needs.{needs}
 use mathlib.Core.Path.{sym, ap, _∙_}
 use Rattle.nessflurry_c.specs.AnswerWords.{checkWord}
@@ -14,14 +14,8 @@ answer-word-requires c κs = search needs
 enum-known-answer-2 : tie.Need-enum-known-answer-2
 enum-known-answer-2 c = search needs
 
-failure-number-requires : tie.Need-failure-number-requires
-failure-number-requires c κs = search needs
-
-cast-answer-word : tie.Need-cast-answer-word
-cast-answer-word c = search needs
-
-answer-word-requires-2 : tie.Need-answer-word-requires-2
-answer-word-requires-2 c κs = search needs
+failed-word-requires : tie.Need-failed-word-requires
+failed-word-requires c κs = search needs
 
 enum-known-answer-3 : tie.Need-enum-known-answer-3
 enum-known-answer-3 c = search needs
@@ -33,9 +27,7 @@ returns : tie.Need-returns
 returns c = c .answer-word .ensures ∙ ap checkWord (sym (c .before .before .answer .given .1))
 
 returns-2 : tie.Need-returns-2
-returns-2 c =
-    rw (c .answer-word2 .ensures, c .before .before .failure-number .ensures)
-    (ap checkWord (sym (c .before .before .before .before .answer2 .given .1)))
+returns-2 c = c .failed-word .ensures ∙ ap checkWord (sym (c .before .before .answer2 .given .1))
 
 returns-3 : tie.Need-returns-3
 returns-3 c = c .refused-word .ensures ∙ ap checkWord (sym (c .before .before .answer3 .given .1))
@@ -47,9 +39,7 @@ check-word-spec =
     enum-known-answer
     answer-word-requires
     enum-known-answer-2
-    failure-number-requires
-    cast-answer-word
-    answer-word-requires-2
+    failed-word-requires
     enum-known-answer-3
     refused-word-requires
     returns

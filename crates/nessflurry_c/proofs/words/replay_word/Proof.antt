@@ -1,5 +1,7 @@
 -- Each answer's fields are those of its definition.
 use borrow.Author.Needs.{needs}
+use mathlib.Core.Path.{sym, ap, _∙_}
+use Rattle.nessflurry_c.specs.AnswerWords.{replayWord}
 use Rattle.nessflurry_c.proofs.words.replay_word.Statement.{statement}
 use Rattle.nessflurry_c.proofs.words.replay_word.Tie as tie
 
@@ -28,10 +30,10 @@ returns : tie.Need-returns
 returns c = cc
 
 returns-2 : tie.Need-returns-2
-returns-2 c = cc
+returns-2 c = c .answer-word2 .ensures ∙ ap replayWord (sym (c .before .before .answer .given .1))
 
 returns-3 : tie.Need-returns-3
-returns-3 c = cc
+returns-3 c = c .refused-word .ensures ∙ ap replayWord (sym (c .before .before .answer2 .given .1))
 
 pub replay-word-spec : {M : Type 1} → statement M
 replay-word-spec =

@@ -2,8 +2,8 @@
 use borrow.Author.Needs.{needs}
 use Prim.Native.Nat.{_≤_, _-_}
 use lib.ListN.{length}
-use Rattle.check_cases.proofs.line_kept.Statement.{statement}
-use Rattle.check_cases.proofs.line_kept.Tie as tie
+use Rattle.check_cases.proofs.kept.line_kept.Statement.{statement}
+use Rattle.check_cases.proofs.kept.line_kept.Tie as tie
 
 abbrev Inv-loop : tie.InvT-loop
 Inv-loop line from i₀ i = 0 ≤ i

@@ -2,8 +2,8 @@
 use borrow.Author.Needs.{needs}
 use Prim.Native.Nat.{_≤_, _-_}
 use lib.ListN.{length}
-use Rattle.check_cases.proofs.list_kept.Statement.{statement}
-use Rattle.check_cases.proofs.list_kept.Tie as tie
+use Rattle.check_cases.proofs.kept.list_kept.Statement.{statement}
+use Rattle.check_cases.proofs.kept.list_kept.Tie as tie
 
 abbrev Inv-loop : tie.InvT-loop
 Inv-loop list i₀ i = i ≤ length list

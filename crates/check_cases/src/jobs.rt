@@ -1,0 +1,61 @@
+// Small jobs on which a search in another order, or one that confuses pairs, gives another answer.
+ghost use mathlib.Core.Path.{_≡_};
+ghost use lib.ListN.{length};
+
+// No program state but the final one, and two starts. For start 0 the goal is true only at the line's end, for start 1 only at a lamp.
+pub fn two_starts() -> [u8; 43]
+    ensures { λ r. ⌜ 43 ≡ length r ⌝ }
+{
+    [
+        1, 2, 1, 1, 0, 0, 0, 0, 28, 0, 1, 0, 29, 0, 8, 0, 37, 0,
+        2, 0, 39, 0, 4, 0, 43, 0, 0, 0, 0, 0, 0, 0, 0, 1, 0, 1,
+        0, 1, 1, 1, 0, 0, 1,
+    ]
+}
+
+// Peek and next, with a plan that goes to the end: next spoils the world at kind 1 and is not legal at kind 2.
+pub fn spoils_or_stops() -> [u8; 68]
+    ensures { λ r. ⌜ 68 ≡ length r ⌝ }
+{
+    [
+        2, 2, 2, 2, 2, 0, 0, 0, 28, 0, 2, 0, 30, 0, 24, 0, 54, 0,
+        2, 0, 56, 0, 6, 0, 62, 0, 6, 0, 0, 1, 0, 0, 0, 1, 0, 1,
+        1, 0, 1, 1, 1, 1, 0, 255, 1, 0, 0, 255, 0, 255, 1, 0, 0, 255,
+        1, 0, 1, 0, 0, 0, 0, 0, 0, 2, 1, 1, 0, 255,
+    ]
+}
+
+// `spoils_or_stops` with its two kinds exchanged.
+pub fn stops_or_spoils() -> [u8; 68]
+    ensures { λ r. ⌜ 68 ≡ length r ⌝ }
+{
+    [
+        2, 2, 2, 2, 2, 0, 0, 0, 28, 0, 2, 0, 30, 0, 24, 0, 54, 0,
+        2, 0, 56, 0, 6, 0, 62, 0, 6, 0, 0, 1, 0, 0, 0, 1, 0, 1,
+        1, 0, 1, 1, 1, 1, 0, 255, 0, 255, 1, 0, 0, 255, 0, 255, 1, 0,
+        1, 0, 1, 0, 0, 0, 0, 0, 0, 2, 1, 1, 0, 255,
+    ]
+}
+
+// Peek and next, with a plan that goes to the end: the world counts the lamps up to 2, and 2 is too many.
+pub fn two_are_too_many() -> [u8; 69]
+    ensures { λ r. ⌜ 69 ≡ length r ⌝ }
+{
+    [
+        2, 3, 1, 2, 2, 0, 0, 0, 28, 0, 2, 0, 30, 0, 24, 0, 54, 0,
+        3, 0, 57, 0, 6, 0, 63, 0, 6, 0, 0, 1, 0, 0, 0, 1, 1, 0,
+        1, 1, 2, 0, 2, 1, 0, 255, 1, 0, 0, 255, 2, 0, 0, 255, 2, 0,
+        1, 0, 0, 1, 1, 1, 1, 0, 0, 0, 2, 1, 1, 0, 255,
+    ]
+}
+
+// Peek and next, with a plan that ends after the first lamp.
+pub fn one_lamp_only() -> [u8; 47]
+    ensures { λ r. ⌜ 47 ≡ length r ⌝ }
+{
+    [
+        2, 1, 1, 2, 2, 0, 0, 0, 28, 0, 2, 0, 30, 0, 8, 0, 38, 0,
+        1, 0, 39, 0, 2, 0, 41, 0, 6, 0, 0, 1, 0, 0, 0, 1, 0, 255,
+        0, 0, 1, 1, 1, 0, 2, 1, 1, 2, 255,
+    ]
+}
