@@ -1,8 +1,10 @@
 /*
  * A cabinet's firmware in small. It checks the plan of a job; if the plan is right on every line, it takes a cabinet along one
- * line, with the lamps of that line played by the job's own tables. The cabinet keeps a log, which is replayed at the end.
+ * line, with the lamps and the end of that line played by the job's own tables. The cabinet keeps a log, which is replayed at the
+ * end.
  *
- *     street JOB KIND...        for example: street samples/bench_g.job 1 2 1
+ *     street JOB END KIND...        the end kind of the line, and the kinds of its lamps; for example:
+ *                                   street samples/bench_g.job 0 1 2 1
  */
 #include "nessflurry.h"
 
@@ -11,7 +13,7 @@
 #include <stdlib.h>
 
 /* One byte and one lamp more than the library takes, so that too large ones are handed in, and refused. */
-static uint8_t file[NESSFLURRY_MAX_FILE_SIZE + 1], line[NESSFLURRY_MAX_LAMPS + 1];
+static uint8_t file[NESSFLURRY_MAX_FILE_SIZE + 1], line[NESSFLURRY_MAX_LAMPS + 1], end;
 static size_t file_size, lamps;
 
 static uint16_t head[NESSFLURRY_HEAD_SIZE];
@@ -26,19 +28,26 @@ static uint64_t not_refused(const char *operation, uint64_t answer)
     return answer;
 }
 
+/* The number that is written here, or `none` if that is no byte. */
+static uint8_t byte_in(const char *text, uint8_t none)
+{
+    char *rest;
+    unsigned long number = strtoul(text, &rest, 10);
+    return rest != text && *rest == '\0' && number <= 255 ? (uint8_t)number : none;
+}
+
 static void take_arguments(int argc, char **argv)
 {
-    FILE *job = argc >= 2 ? fopen(argv[1], "rb") : NULL;
+    FILE *job = argc >= 3 ? fopen(argv[1], "rb") : NULL;
     if (job == NULL) {
-        fprintf(stderr, "usage: street JOB KIND...\n");
+        fprintf(stderr, "usage: street JOB END KIND...\n");
         exit(2);
     }
     file_size = fread(file, 1, sizeof file, job);
     fclose(job);
-    for (int i = 2; i < argc && lamps < sizeof line; i++) {
-        unsigned long kind = strtoul(argv[i], NULL, 10);
-        line[lamps++] = kind <= 255 ? (uint8_t)kind : 0; /* 0 is no lamp's kind: the run refuses it */
-    }
+    end = byte_in(argv[2], 255); /* 255 is no end kind, and 0 no lamp's kind: the run refuses them */
+    for (int i = 3; i < argc && lamps < sizeof line; i++)
+        line[lamps++] = byte_in(argv[i], 0);
 }
 
 /* The sizes are enough for every job; nothing has to be cleared. */
@@ -57,7 +66,7 @@ static void check_plan(void)
     printf("the plan fails with failure %d from start %d on the line", failure, start);
     for (int i = 0; i < count; i++)
         printf(" %d", failing[i]);
-    puts(count == 0 ? " without lamps" : "");
+    printf("%s with end kind %d\n", count == 0 ? " without lamps" : "", nessflurry_end_of(answer));
     exit(1);
 }
 
@@ -65,8 +74,9 @@ static void check_plan(void)
 static uint8_t world;
 static size_t passed;
 
-static size_t column(void) { return passed < lamps ? line[passed] : 0; }
-static size_t columns(void) { return head[NESSFLURRY_HEAD_KINDS] + 1u; }
+/* The end kinds are the first columns, and the lamp kinds come after them. */
+static size_t column(void) { return passed < lamps ? (size_t)head[NESSFLURRY_HEAD_LAST_END] + line[passed] : end; }
+static size_t columns(void) { return head[NESSFLURRY_HEAD_LAST_END] + 1u + head[NESSFLURRY_HEAD_KINDS]; }
 
 /* Does one action on the world, and answers what is sensed. After an accepted plan the action is legal here. */
 static uint8_t perform(uint8_t action)
@@ -80,10 +90,10 @@ static uint8_t perform(uint8_t action)
 
 static bool goal_holds(void) { return file[head[NESSFLURRY_HEAD_GOAL_OFFSET] + world * columns() + column()] == 1; }
 
-/* Says beforehand how the line ends, which the cabinet itself cannot know; refuses a line with a kind that no lamp has. */
+/* Says beforehand how the line ends, which the cabinet itself cannot know; refuses a line with a kind that no lamp or end has. */
 static void foretell(void)
 {
-    uint64_t answer = not_refused("run", nessflurry_run(file, file_size, world, line, lamps, UINT32_MAX));
+    uint64_t answer = not_refused("run", nessflurry_run(file, file_size, world, line, lamps, end, UINT32_MAX));
     printf("the run of the line ends with code %d after %u steps\n", nessflurry_code_of(answer), nessflurry_steps_of(answer));
 }
 

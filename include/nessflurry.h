@@ -15,14 +15,15 @@
  *     switch (nessflurry_code_of(answer)) {
  *     case NESSFLURRY_REFUSED:  return cannot_check(nessflurry_refusal_of(answer));
  *     case NESSFLURRY_ACCEPTED: return install(file, file_size);
- *     default:                  return fails_on(line, nessflurry_lamps_of(answer), nessflurry_start_of(answer));
+ *     default:                  return fails_on(line, nessflurry_lamps_of(answer), nessflurry_end_of(answer),
+ *                                               nessflurry_start_of(answer));
  *     }
  *
- * Terms. A job file holds tables, which say what each action does at each kind of lamp, and a plan. It has A actions, W world
- * states, C lamp kinds, R sensed results, and S program states besides the final one. Lamp kinds are numbered from 1, everything
- * else from 0; the final program state is S. A world state stands for everything that actions can change. A line is an array of
- * lamp kinds. A column is the kind of the lamp that the cabinet is at, or 0 at the end of the line. A start is a world state that
- * the job marks as one.
+ * Terms. A job file holds tables, which say what each action does at each kind of lamp and of line's end, and a plan. It has A
+ * actions, W world states, C lamp kinds, E end kinds, R sensed results, and S program states besides the final one. Lamp kinds are
+ * numbered from 1, everything else from 0; the final program state is S. A world state stands for everything that actions can
+ * change. A line is an array of lamp kinds, and an end kind. A column says where the cabinet is: columns 0 to E - 1 are the end
+ * kinds, and a lamp of kind k is column E - 1 + k. A start is a world state that the job marks as one.
  *
  * What holds for every call:
  *
@@ -50,8 +51,17 @@
 /*
  * The version of this header. nessflurry_version() returns the library's. If the two differ, the library has other functions or
  * answers than this header describes: call nothing else of it. A library that has more functions keeps its version.
+ *
+ * A caller of version 1, which knew one kind of line's end, changes this:
+ *
+ * - nessflurry_run takes an end kind after the line: 0 does what version 1 did.
+ * - `head` of nessflurry_read has 17 elements, and the offsets and lengths are one further back: NESSFLURRY_HEAD_LAST_END is new.
+ * - A failure of the checks has an end kind, nessflurry_end_of, where version 1 had 0.
+ * - Byte 6 of a job file, which had to be 0, is the number of end kinds less one. A file in which it is 0 means what it meant, and all
+ *   its answers are as they were. A caller that takes any file must not take a lamp's kind for its column: kind k is column
+ *   head[NESSFLURRY_HEAD_LAST_END] + k, in nessflurry_walk and in the tables, and the tables have E + C columns instead of C + 1.
  */
-#define NESSFLURRY_VERSION 1
+#define NESSFLURRY_VERSION 2
 
 /* Makes the compiler warn if an answer is dropped. */
 #if (defined __cplusplus && __cplusplus >= 201703L) || (defined __STDC_VERSION__ && __STDC_VERSION__ > 201710L)
@@ -94,12 +104,12 @@ enum {
 enum {
     /* The job file: refused by every operation. */
     NESSFLURRY_REFUSED_FILE_SIZE = 1,   /* shorter than 28 or longer than 65,535 bytes */
-    NESSFLURRY_REFUSED_NUMBERS = 2,     /* one of the first eight bytes is out of range */
+    NESSFLURRY_REFUSED_NUMBERS = 2,     /* one of the first eight bytes is out of range, or E + C is above 16 */
     NESSFLURRY_REFUSED_PART_PLACE = 3,  /* a part begins before byte 28 or before the previous one ends, or ends after the file */
     NESSFLURRY_REFUSED_PART_LENGTH = 4, /* a part is not as long as the job's numbers make it */
     NESSFLURRY_REFUSED_MARKS = 5,       /* an action's mark is neither 0 nor 1 */
     NESSFLURRY_REFUSED_CELLS = 6,       /* a cell has a world state or result out of range, or is not legal with a world state not 0 */
-    NESSFLURRY_REFUSED_END_CELLS = 7,   /* an action that moves on is legal at the end of the line */
+    NESSFLURRY_REFUSED_END_CELLS = 7,   /* an action that moves on is legal at some kind of line's end */
     NESSFLURRY_REFUSED_STARTS = 8,      /* a byte of the starts is neither 0 nor 1, or none is 1 */
     NESSFLURRY_REFUSED_GOAL = 9,        /* a byte of the goal is neither 0 nor 1 */
     NESSFLURRY_REFUSED_ACTIONS = 10,    /* the plan names an action that the job does not have */
@@ -108,7 +118,7 @@ enum {
     NESSFLURRY_REFUSED_LINE_BUFFER = 12,  /* the checks: fewer than S * W + 1 elements in `line` */
     NESSFLURRY_REFUSED_WORK_BUFFERS = 13, /* the checks: fewer than (S + 1) * W elements in `list`, or bits in `words` */
     NESSFLURRY_REFUSED_WORLD = 14,        /* run: not a start; walk: no such world state */
-    NESSFLURRY_REFUSED_LINE = 15,         /* run: more than 65,535 lamps, or no such lamp kind; walk: no such column */
+    NESSFLURRY_REFUSED_LINE = 15,         /* run: over 65,535 lamps, or no such lamp kind or end kind; walk: no such column */
     NESSFLURRY_REFUSED_STATE = 16,        /* walk, action, report: no such program state */
     /* What a cabinet reports. */
     NESSFLURRY_REFUSED_AFTER_END = 17, /* the cabinet is in the final state */
@@ -138,17 +148,18 @@ enum {
     NESSFLURRY_HEAD_RESULTS = 3,     /* R */
     NESSFLURRY_HEAD_STATES = 4,      /* S */
     NESSFLURRY_HEAD_FIRST_STATE = 5, /* where the plan begins */
-    NESSFLURRY_HEAD_MARKS_OFFSET = 6,
-    NESSFLURRY_HEAD_MARKS_LENGTH = 7,
-    NESSFLURRY_HEAD_CELLS_OFFSET = 8,
-    NESSFLURRY_HEAD_CELLS_LENGTH = 9,
-    NESSFLURRY_HEAD_STARTS_OFFSET = 10,
-    NESSFLURRY_HEAD_STARTS_LENGTH = 11,
-    NESSFLURRY_HEAD_GOAL_OFFSET = 12,
-    NESSFLURRY_HEAD_GOAL_LENGTH = 13,
-    NESSFLURRY_HEAD_PLAN_OFFSET = 14,
-    NESSFLURRY_HEAD_PLAN_LENGTH = 15,
-    NESSFLURRY_HEAD_SIZE = 16 /* elements in `head` */
+    NESSFLURRY_HEAD_LAST_END = 6,    /* E - 1, the highest end kind */
+    NESSFLURRY_HEAD_MARKS_OFFSET = 7,
+    NESSFLURRY_HEAD_MARKS_LENGTH = 8,
+    NESSFLURRY_HEAD_CELLS_OFFSET = 9,
+    NESSFLURRY_HEAD_CELLS_LENGTH = 10,
+    NESSFLURRY_HEAD_STARTS_OFFSET = 11,
+    NESSFLURRY_HEAD_STARTS_LENGTH = 12,
+    NESSFLURRY_HEAD_GOAL_OFFSET = 13,
+    NESSFLURRY_HEAD_GOAL_LENGTH = 14,
+    NESSFLURRY_HEAD_PLAN_OFFSET = 15,
+    NESSFLURRY_HEAD_PLAN_LENGTH = 16,
+    NESSFLURRY_HEAD_SIZE = 17 /* elements in `head` */
 };
 
 /* ---- Reading an answer ---- */
@@ -160,7 +171,7 @@ enum {
  *     bits  0 to  7   refusal: its reason, or 0 if the call was not refused
  *     bits  8 to 15   code
  *     bits 16 to 23   a program state, a start or an action
- *     bits 24 to 31   a world state
+ *     bits 24 to 31   a world state or an end kind
  *     bits 32 to 63   a number of steps, pairs or lamps, or a place in a log
  */
 static inline uint8_t nessflurry_refusal_of(uint64_t answer) { return NESSFLURRY_CAST(uint8_t, answer); }
@@ -169,6 +180,7 @@ static inline uint8_t nessflurry_state_of(uint64_t answer) { return NESSFLURRY_C
 static inline uint8_t nessflurry_start_of(uint64_t answer) { return NESSFLURRY_CAST(uint8_t, answer >> 16); }
 static inline uint8_t nessflurry_action_of(uint64_t answer) { return NESSFLURRY_CAST(uint8_t, answer >> 16); }
 static inline uint8_t nessflurry_world_of(uint64_t answer) { return NESSFLURRY_CAST(uint8_t, answer >> 24); }
+static inline uint8_t nessflurry_end_of(uint64_t answer) { return NESSFLURRY_CAST(uint8_t, answer >> 24); }
 static inline uint32_t nessflurry_steps_of(uint64_t answer) { return NESSFLURRY_CAST(uint32_t, answer >> 32); }
 static inline uint32_t nessflurry_pairs_of(uint64_t answer) { return NESSFLURRY_CAST(uint32_t, answer >> 32); }
 static inline uint16_t nessflurry_lamps_of(uint64_t answer) { return NESSFLURRY_CAST(uint16_t, answer >> 32); }
@@ -187,7 +199,7 @@ uint64_t nessflurry_raw_read(const uint8_t *file, size_t file_size, uint16_t hea
 NESSFLURRY_NODISCARD
 uint64_t nessflurry_raw_walk(const uint8_t *file, size_t file_size, uint8_t state, uint8_t world, uint8_t column);
 NESSFLURRY_NODISCARD
-uint64_t nessflurry_raw_run(const uint8_t *file, size_t file_size, uint8_t start, const uint8_t *line, size_t lamps,
+uint64_t nessflurry_raw_run(const uint8_t *file, size_t file_size, uint8_t start, const uint8_t *line, size_t lamps, uint8_t end,
                             uint32_t limit);
 NESSFLURRY_NODISCARD
 uint64_t nessflurry_raw_check(const uint8_t *file, size_t file_size, uint8_t *line, size_t line_size, uint32_t *list,
@@ -216,7 +228,7 @@ static inline const uint8_t *nessflurry_not_null(const uint8_t *bytes, size_t si
 /* In these comments state_of is short for nessflurry_state_of(answer), and so on; refusals are given by their numbers. */
 
 /*
- * Reads a job file of file_size bytes. NESSFLURRY_DONE: the 16 elements of `head` have been written; NESSFLURRY_HEAD_... says what
+ * Reads a job file of file_size bytes. NESSFLURRY_DONE: the 17 elements of `head` have been written; NESSFLURRY_HEAD_... says what
  * they are. `head` must not be NULL. Refusals 1 to 11; then it is unchanged.
  */
 NESSFLURRY_NODISCARD
@@ -226,9 +238,9 @@ static inline uint64_t nessflurry_read(const uint8_t *file, size_t file_size, ui
 }
 
 /*
- * Follows the plan at one lamp (column 1 to C) or at the end of the line (column 0), from any program state and world state.
- * NESSFLURRY_GOAL or a failure: the walk ended here after steps_of steps. NESSFLURRY_ARRIVED: it moved on after steps_of steps,
- * counting the step that moved on, and arrived with state_of and world_of. Refusals 1 to 11, 14, 15, 16.
+ * Follows the plan at one lamp (column E to E + C - 1) or at the end of the line (column 0 to E - 1), from any program state and
+ * world state. NESSFLURRY_GOAL or a failure: the walk ended here after steps_of steps. NESSFLURRY_ARRIVED: it moved on after
+ * steps_of steps, counting the step that moved on, and arrived with state_of and world_of. Refusals 1 to 11, 14, 15, 16.
  */
 NESSFLURRY_NODISCARD
 static inline uint64_t nessflurry_walk(const uint8_t *file, size_t file_size, uint8_t state, uint8_t world, uint8_t column)
@@ -237,27 +249,27 @@ static inline uint64_t nessflurry_walk(const uint8_t *file, size_t file_size, ui
 }
 
 /*
- * Runs the plan from a start along a line of `lamps` elements, each a lamp kind. NESSFLURRY_GOAL or a failure: the run ended after
- * steps_of steps. NESSFLURRY_STOPPED: it would take more steps than `limit`, and steps_of is the limit; no run takes as many as
- * UINT32_MAX. Refusals 1 to 11, 14, 15.
+ * Runs the plan from a start along a line of `lamps` elements, each a lamp kind, that ends in the end kind `end`. NESSFLURRY_GOAL or
+ * a failure: the run ended after steps_of steps. NESSFLURRY_STOPPED: it would take more steps than `limit`, and steps_of is the
+ * limit; no run takes as many as UINT32_MAX. Refusals 1 to 11, 14, 15; the whole line and `end` are tested, wherever the run ends.
  */
 NESSFLURRY_NODISCARD
 static inline uint64_t nessflurry_run(const uint8_t *file, size_t file_size, uint8_t start, const uint8_t *line, size_t lamps,
-                                      uint32_t limit)
+                                      uint8_t end, uint32_t limit)
 {
-    return nessflurry_raw_run(nessflurry_not_null(file, file_size), file_size, start, nessflurry_not_null(line, lamps), lamps,
+    return nessflurry_raw_run(nessflurry_not_null(file, file_size), file_size, start, nessflurry_not_null(line, lamps), lamps, end,
                               limit);
 }
 
 /*
- * Checks the plan on every line of every length, from every start.
+ * Checks the plan on every line of every length and with every end kind, from every start.
  *
  * NESSFLURRY_ACCEPTED: the plan is right on all of them; `line` is unchanged. Over all lines, pairs_of different pairs of program
  * state and world state occur on arriving at a lamp or at the end of the line.
  *
- * A failure: from start_of, the plan fails in this way on the line that is now in the first lamps_of elements of `line`; the rest
- * of `line` is unchanged. No shorter line fails. Of several failing lines of that length it is the one with the lowest start, and
- * then the one with the lower kind at the first lamp that differs.
+ * A failure: from start_of, the plan fails in this way on the line that is now in the first lamps_of elements of `line` and ends in
+ * the end kind end_of; the rest of `line` is unchanged. No shorter line fails. Of several failing lines of that length it is the one
+ * with the lowest start, then the one with the lower kind at the first lamp that differs, and then the one with the lower end kind.
  *
  * `line` needs S * W + 1 elements, `list` (S + 1) * W, and `words` as many bits, 64 to an element: NESSFLURRY_LINE_SIZE,
  * NESSFLURRY_LIST_SIZE and NESSFLURRY_WORDS_SIZE elements are enough for every job. `list` and `words` are working memory: they
@@ -279,8 +291,8 @@ static inline uint64_t nessflurry_check(const uint8_t *file, size_t file_size, u
  *
  * A failure: what nessflurry_check would answer, and it would leave the same in `line`; so the line has at most `longest` lamps.
  *
- * NESSFLURRY_NONE_UP_TO: from every start, the plan is right on every line of up to `longest` lamps; lamps_of is `longest`, and `line`
- * is unchanged. It may still fail on a longer line: only nessflurry_check accepts a plan.
+ * NESSFLURRY_NONE_UP_TO: from every start, the plan is right on every line of up to `longest` lamps, whatever its end kind; lamps_of
+ * is `longest`, and `line` is unchanged. It may still fail on a longer line: only nessflurry_check accepts a plan.
  *
  * `line`, `list` and `words` are as for nessflurry_check, and need the same sizes whatever `longest` is. Refusals 1 to 13.
  */
@@ -331,9 +343,9 @@ static inline uint64_t nessflurry_report(const uint8_t *file, size_t file_size, 
  * Says whether a cabinet that runs this plan can have written a log. A log has log_size bytes: for each step, from the plan's first
  * on, its action and the result that was sensed. It need not go on to the plan's end, and a plan that circles may go on circling.
  *
- * NESSFLURRY_POSSIBLE: some start and some line, of any length, give it. NESSFLURRY_IMPOSSIBLE: none does. Entries are counted from
- * 0, and the one at place_of is the first with which it is so: the entries before it are possible, those up to and with it are not.
- * Refusals 1 to 11, 20, 21; for 21 the whole log is read, whatever its first entries are.
+ * NESSFLURRY_POSSIBLE: some start and some line, of any length and any end kind, give it. NESSFLURRY_IMPOSSIBLE: none does. Entries
+ * are counted from 0, and the one at place_of is the first with which it is so: the entries before it are possible, those up to and
+ * with it are not. Refusals 1 to 11, 20, 21; for 21 the whole log is read, whatever its first entries are.
  */
 NESSFLURRY_NODISCARD
 static inline uint64_t nessflurry_replay(const uint8_t *file, size_t file_size, const uint8_t *log, size_t log_size)

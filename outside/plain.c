@@ -4,12 +4,13 @@
  * them, and of the benchmark, where the walk is the plain loop. So each thing is done in the way the paper says it, and in no
  * cleverer one; the checks that remember are the exception.
  *
- * "01" in the comments is document 01, followed by the title of the section that is rendered.
+ * "01" in the comments is document 01, followed by the title of the section that is rendered; "02" is document 02, followed
+ * by the request.
  */
 #include "plain.h"
 #include "plain_job.h"
 
-enum { PAIRS_AT = 8, FIRST_PART_AT = 28 }; /* 01, Job file: the least offset of a part */
+enum { LAST_END_AT = 6, PAIRS_AT = 8, FIRST_PART_AT = 28 }; /* 02, (c); 01, Job file: the least offset of a part */
 
 enum { MARKS, CELLS, STARTS, GOAL, PLAN, PARTS };
 
@@ -35,10 +36,11 @@ static bool within(unsigned number, unsigned least, unsigned most)
     return least <= number && number <= most;
 }
 
+/* E - 1 is at most 15 - C, since E + C is at most 16 (02, (c)). */
 static bool numbers_in_range(const uint8_t *file)
 {
     return within(file[0], 1, 16) && within(file[1], 1, 64) && within(file[2], 1, 15) && within(file[3], 1, 8)
-        && within(file[4], 0, 64) && within(file[5], 0, file[4]) && file[6] == 0 && file[7] == 0;
+        && within(file[4], 0, 64) && within(file[5], 0, file[4]) && within(file[LAST_END_AT], 0, 15u - file[2]) && file[7] == 0;
 }
 
 static bool parts_in_place(const uint8_t *file, size_t file_size)
@@ -56,9 +58,9 @@ static bool parts_in_place(const uint8_t *file, size_t file_size)
 
 static struct job job_in(const uint8_t *file)
 {
-    const unsigned worlds = file[1], columns = file[2] + 1u, results = file[3];
+    const unsigned worlds = file[1], kinds = file[2], results = file[3], ends = file[LAST_END_AT] + 1u, columns = ends + kinds;
     return (struct job){
-        .actions = file[0], .worlds = worlds, .columns = columns, .results = results,
+        .actions = file[0], .worlds = worlds, .kinds = kinds, .results = results, .ends = ends, .columns = columns,
         .final = {file[4]}, .first = {file[5]},
         .action_bytes = 2 * worlds * columns, .world_bytes = 2 * columns, .row_bytes = 1 + results,
         .marks = file + offset_of(file, MARKS),
@@ -108,18 +110,19 @@ static bool cells_in_range(const struct job *job)
     return true;
 }
 
-static bool legal_at_the_end(const struct job *job, unsigned action)
+static bool legal_at_an_end(const struct job *job, unsigned action)
 {
     for (world_state world = {0}; world.number < job->worlds; world.number++)
-        if (cell_of(job, action, world, END_COLUMN)[1] != NONE)
-            return true;
+        for (unsigned end = 0; end < job->ends; end++)
+            if (cell_of(job, action, world, end)[1] != NONE)
+                return true;
     return false;
 }
 
 static bool moving_on_needs_a_lamp(const struct job *job)
 {
     for (unsigned action = 0; action < job->actions; action++)
-        if (job->marks[action] == 1 && legal_at_the_end(job, action))
+        if (job->marks[action] == 1 && legal_at_an_end(job, action))
             return false;
     return true;
 }
@@ -181,7 +184,7 @@ uint64_t plain_read(const uint8_t *file, size_t file_size, uint16_t head[NESSFLU
     const unsigned refusal = read_job(file, file_size, &job);
     if (refusal != 0)
         return refused(refusal);
-    for (unsigned i = NESSFLURRY_HEAD_ACTIONS; i <= NESSFLURRY_HEAD_FIRST_STATE; i++)
+    for (unsigned i = NESSFLURRY_HEAD_ACTIONS; i <= NESSFLURRY_HEAD_LAST_END; i++)
         head[i] = file[i];
     for (unsigned part = 0; part < PARTS; part++) {
         head[NESSFLURRY_HEAD_MARKS_OFFSET + 2 * part] = (uint16_t)offset_of(file, part);
@@ -222,17 +225,17 @@ uint64_t plain_walk(const uint8_t *file, size_t file_size, uint8_t state, uint8_
 static bool kinds_in_range(const struct job *job, const uint8_t *line, size_t lamps)
 {
     for (size_t i = 0; i < lamps; i++)
-        if (line[i] < 1 || line[i] >= job->columns)
+        if (!within(line[i], 1, job->kinds))
             return false;
     return true;
 }
 
-/* 01, Who can cause which number: 14 and 15. The whole line is tested, wherever its run ends. */
-static unsigned run_refusal(const struct job *job, unsigned start, const uint8_t *line, size_t lamps)
+/* 01, Who can cause which number: 14 and 15. The whole line and its end kind are tested, wherever its run ends. */
+static unsigned run_refusal(const struct job *job, unsigned start, const uint8_t *line, size_t lamps, unsigned end)
 {
     if (start >= job->worlds || job->starts[start] != 1)
         return NESSFLURRY_REFUSED_WORLD;
-    if (lamps > NESSFLURRY_MAX_LAMPS || !kinds_in_range(job, line, lamps))
+    if (lamps > NESSFLURRY_MAX_LAMPS || !kinds_in_range(job, line, lamps) || end >= job->ends)
         return NESSFLURRY_REFUSED_LINE;
     return 0;
 }
@@ -242,12 +245,13 @@ static unsigned run_refusal(const struct job *job, unsigned start, const uint8_t
  * legal there. Steps only grow: once they are above the limit, the ending's count would be too. They cannot overflow,
  * as a line of 65,535 lamps has at most 65,536·4,096 of them.
  */
-static uint64_t run(const struct job *job, world_state start, const uint8_t *line, size_t lamps, uint32_t limit)
+static uint64_t run(const struct job *job, world_state start, const uint8_t *line, size_t lamps, unsigned line_end,
+                    uint32_t limit)
 {
     struct pair at = {job->first, start};
     uint32_t steps = 0;
     for (size_t passed = 0;; passed++) {
-        const struct walked end = walk(job, at, passed < lamps ? line[passed] : END_COLUMN);
+        const struct walked end = walk(job, at, passed < lamps ? lamp_column(job, line[passed]) : line_end);
         steps += end.steps;
         if (steps > limit)
             return answered(NESSFLURRY_STOPPED, 0, 0, limit);
@@ -257,13 +261,14 @@ static uint64_t run(const struct job *job, world_state start, const uint8_t *lin
     }
 }
 
-uint64_t plain_run(const uint8_t *file, size_t file_size, uint8_t start, const uint8_t *line, size_t lamps, uint32_t limit)
+uint64_t plain_run(const uint8_t *file, size_t file_size, uint8_t start, const uint8_t *line, size_t lamps, uint8_t end,
+                   uint32_t limit)
 {
     struct job job;
     unsigned refusal = read_job(file, file_size, &job);
     if (refusal == 0)
-        refusal = run_refusal(&job, start, line, lamps);
-    return refusal != 0 ? refused(refusal) : run(&job, (world_state){start}, line, lamps, limit);
+        refusal = run_refusal(&job, start, line, lamps, end);
+    return refusal != 0 ? refused(refusal) : run(&job, (world_state){start}, line, lamps, end, limit);
 }
 
 /* ---- The cabinet (01, The cabinet) ---- */

@@ -9,7 +9,8 @@
 
 uint64_t plain_read(const uint8_t *file, size_t file_size, uint16_t head[NESSFLURRY_HEAD_SIZE]);
 uint64_t plain_walk(const uint8_t *file, size_t file_size, uint8_t state, uint8_t world, uint8_t column);
-uint64_t plain_run(const uint8_t *file, size_t file_size, uint8_t start, const uint8_t *line, size_t lamps, uint32_t limit);
+uint64_t plain_run(const uint8_t *file, size_t file_size, uint8_t start, const uint8_t *line, size_t lamps, uint8_t end,
+                   uint32_t limit);
 uint64_t plain_begin(const uint8_t *file, size_t file_size, uint16_t lamps);
 uint64_t plain_action(const uint8_t *file, size_t file_size, uint8_t state, uint16_t lamps);
 uint64_t plain_report(const uint8_t *file, size_t file_size, uint8_t state, uint16_t lamps, uint8_t result);

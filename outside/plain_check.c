@@ -165,27 +165,47 @@ EACH_FORM unsigned remembered_fate(struct search *search, struct pair at, unsign
 /* As `longest`: the search goes on until no pair is left, as none has so many lamps. No check can be told this number. */
 enum { NO_BOUND = NESSFLURRY_MAX_LAMPS + 1 };
 
+/* What becomes of the same lamps with every end kind: Goal with all of them; or a failure, and the lowest with which it comes. */
+struct verdict {
+    unsigned code, end;
+};
+
+/* Lines that end with this pair, the end kinds ascending. */
+EACH_FORM struct verdict judge_ends(struct search *search, finder *fate_of, struct pair pair)
+{
+    const unsigned ends = search->job.ends;
+    for (unsigned end = 0; end < ends; end++) {
+        const unsigned fate = fate_of(search, pair, end);
+        if (fate != NESSFLURRY_GOAL)
+            return (struct verdict){fate, end};
+    }
+    return (struct verdict){.code = NESSFLURRY_GOAL};
+}
+
 /*
  * A line comes with this pair to its end, or to a further lamp. The first time the pair is kept, and the line that ends
- * here is judged: Goal or its failure. A later line that ends with the same pair ends in the same way, and the first
- * one did not fail.
+ * here is judged with every end kind. A later line that ends with the same pair ends in the same way with each of them, and
+ * the first one did not fail.
  */
-EACH_FORM unsigned arrive(struct search *search, finder *fate_of, struct pair pair, uint32_t from, unsigned kind)
+EACH_FORM struct verdict arrive(struct search *search, finder *fate_of, struct pair pair, uint32_t from, unsigned kind)
 {
     const unsigned number = number_of(&search->job, pair);
     const uint64_t bit = (uint64_t)1 << number % 64;
     if (search->words[number / 64] & bit)
-        return NESSFLURRY_GOAL;
+        return (struct verdict){.code = NESSFLURRY_GOAL};
     search->words[number / 64] |= bit;
     search->list[search->reached++] = entry_of(pair, from, kind);
-    return fate_of(search, pair, END_COLUMN);
+    return judge_ends(search, fate_of, pair);
 }
 
-/* The line to the pair at this place, and after it one lamp of this kind and the end: Goal or its failure. */
-EACH_FORM unsigned lengthen(struct search *search, finder *fate_of, struct pair pair, uint32_t place, unsigned kind)
+/*
+ * The line to the pair at this place, and after it one lamp of this kind and any end. What ends at the lamp ends there
+ * whatever the end kind is, so that the lowest is 0.
+ */
+EACH_FORM struct verdict lengthen(struct search *search, finder *fate_of, struct pair pair, uint32_t place, unsigned kind)
 {
-    const unsigned fate = fate_of(search, pair, kind);
-    return fate < GOES ? fate : arrive(search, fate_of, unpacked(fate - GOES), place, kind);
+    const unsigned fate = fate_of(search, pair, lamp_column(&search->job, kind));
+    return fate < GOES ? (struct verdict){.code = fate} : arrive(search, fate_of, unpacked(fate - GOES), place, kind);
 }
 
 /* How many lamps are passed on the way from a start to this place of the list. */
@@ -202,7 +222,7 @@ static uint32_t lamps_before(const uint32_t *list, uint32_t place)
  * lamp to its first, and then the place is that of its start. It fits: on the way each pair is left by moving on, so it
  * is non-final, and none comes twice; so at most S·W lamps are before the last one.
  */
-static uint64_t failed_line(const uint32_t *list, unsigned failure, uint32_t place, unsigned kind, uint8_t *line)
+static uint64_t failed_line(const uint32_t *list, struct verdict failure, uint32_t place, unsigned kind, uint8_t *line)
 {
     const uint32_t lamps = lamps_before(list, place) + 1;
     line[lamps - 1] = (uint8_t)kind;
@@ -210,25 +230,25 @@ static uint64_t failed_line(const uint32_t *list, unsigned failure, uint32_t pla
         line[left - 1] = (uint8_t)kind_in(list[place]);
         place = from_in(list[place]);
     }
-    return answered(failure, pair_in(list[place]).world.number, 0, lamps);
+    return answered(failure.code, pair_in(list[place]).world.number, failure.end, lamps);
 }
 
 /*
  * The first failure met is that of the least failing line (01, The check): lines are compared by their lamps, then by
- * their starts, then kind by kind from the first lamp on.
+ * their starts, then kind by kind from the first lamp on, and last by their end kinds (02, (c)).
  *
  * A walk depends on its pair and its column alone. So where a run fails before its line's last lamp, the line up to the
  * lamp of the failure is shorter and fails as well: a shortest failing line fails at its last lamp or at its end.
  *
  * A line of n + 1 lamps is a line of n lamps and a kind. Where its run comes to the last lamp at all, with a pair,
  * `lengthen` judges it from that pair and kind: by the walk at the last lamp if that ends there, and otherwise by the
- * walk at the end. A failure at the end is found as soon as the pair is arrived at, since that line has as many lamps
+ * walks at its ends. A failure at an end is found as soon as the pair is arrived at, since that line has as many lamps
  * as one that fails at its last lamp, and only start and kinds may decide between the two. Where a run ends before the
  * last lamp, its line reaches Goal, or a shorter one has failed.
  *
- * When the same lamps are added to two lines, the one that is earlier in the order stays the earlier. So among the
- * lines that arrive with one pair the first speaks for all: whatever lamps follow, another fails with them exactly if
- * the first does, and then it is later in the order. This is why a pair is kept once, when it is first arrived at.
+ * When the same lamps and end are added to two lines, the one that is earlier in the order stays the earlier. So among the
+ * lines that arrive with one pair the first speaks for all: whatever lamps and end follow, another fails with them exactly
+ * if the first does, and then it is later in the order. This is why a pair is kept once, when it is first arrived at.
  *
  * The list has the pairs in the order of these first lines: the starts, ascending, have no lamps; and the pairs of n
  * lamps, taken in their order, with the kinds ascending for each, give the lines of n + 1 lamps in theirs, all of them
@@ -249,17 +269,17 @@ EACH_FORM uint64_t search_lines(struct search search, finder *fate_of, uint32_t 
     for (world_state start = {0}; start.number < job->worlds; start.number++) {
         if (job->starts[start.number] != 1)
             continue;
-        const unsigned failure = arrive(&search, fate_of, (struct pair){job->first, start}, 0, 0);
-        if (failure != NESSFLURRY_GOAL)
-            return answered(failure, start.number, 0, 0);
+        const struct verdict verdict = arrive(&search, fate_of, (struct pair){job->first, start}, 0, 0);
+        if (verdict.code != NESSFLURRY_GOAL)
+            return answered(verdict.code, start.number, verdict.end, 0);
     }
     uint32_t lamps = 0, end = search.reached; /* of the pair that is next; and where the pairs of one lamp more begin */
     for (uint32_t place = 0; place < search.reached && lamps < longest; place++) {
         const struct pair pair = pair_in(search.list[place]);
-        for (unsigned kind = 1; kind < job->columns; kind++) {
-            const unsigned failure = lengthen(&search, fate_of, pair, place, kind);
-            if (failure != NESSFLURRY_GOAL)
-                return failed_line(search.list, failure, place, kind, line);
+        for (unsigned kind = 1; kind <= job->kinds; kind++) {
+            const struct verdict verdict = lengthen(&search, fate_of, pair, place, kind);
+            if (verdict.code != NESSFLURRY_GOAL)
+                return failed_line(search.list, verdict, place, kind, line);
         }
         if (place + 1 == end) {
             lamps++;

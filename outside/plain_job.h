@@ -2,7 +2,8 @@
  * What the files of the plain implementation share: a job's numbers and the places in its tables, one action, and the walk
  * at one lamp, all of it to be compiled into the loops that use it.
  *
- * "01" in the comments is document 01, followed by the title of the section that is rendered.
+ * "01" in the comments is document 01, followed by the title of the section that is rendered; "02" is document 02, followed
+ * by the request.
  */
 #ifndef PLAIN_JOB_H
 #define PLAIN_JOB_H
@@ -11,12 +12,9 @@
 
 #include <stdbool.h>
 
-enum {
-    NONE = 255,    /* as a result: the action is not legal; as a target: there is no branch (01, Job file) */
-    END_COLUMN = 0 /* the column at the end of the line (01, The line and its tables) */
-};
+enum { NONE = 255 }; /* as a result: the action is not legal; as a target: there is no branch (01, Job file) */
 
-enum { MOST_COLUMNS = 16, MOST_STATES = 64, MOST_WORLDS = 64 }; /* of C + 1, S and W (01, Job file) */
+enum { MOST_COLUMNS = 16, MOST_STATES = 64, MOST_WORLDS = 64 }; /* of E + C (02, (c)), S and W (01, Job file) */
 
 /* Two types, so that the compiler refuses the one where the other is due (01, The line and its tables). */
 typedef struct { unsigned number; } program_state;
@@ -29,7 +27,8 @@ struct pair {
 
 /* The numbers of a job, and its five parts, which stay in the file's bytes. */
 struct job {
-    unsigned actions, worlds, columns, results;   /* A, W, C + 1 and R */
+    unsigned actions, worlds, kinds, results;     /* A, W, C and R */
+    unsigned ends, columns;                       /* E, and E + C */
     program_state first, final;                   /* final is S; the states before it are the S non-final ones */
     size_t action_bytes, world_bytes, row_bytes;  /* the cells of one action, those of one of its worlds, a plan row */
     const uint8_t *marks, *cells, *starts, *goal, *plan;
@@ -37,9 +36,9 @@ struct job {
 
 /* ---- Answers (nessflurry.h) ---- */
 
-static inline uint64_t answered(unsigned code, unsigned state, unsigned world, uint32_t count)
+static inline uint64_t answered(unsigned code, unsigned state, unsigned world_or_end, uint32_t count)
 {
-    return (uint64_t)code << 8 | (uint64_t)state << 16 | (uint64_t)world << 24 | (uint64_t)count << 32;
+    return (uint64_t)code << 8 | (uint64_t)state << 16 | (uint64_t)world_or_end << 24 | (uint64_t)count << 32;
 }
 
 static inline uint64_t refused(unsigned refusal)
@@ -47,9 +46,15 @@ static inline uint64_t refused(unsigned refusal)
     return answered(NESSFLURRY_REFUSED, 0, 0, 0) | refusal;
 }
 
-/* ---- Places in the tables (01, Job file, parts 2, 4 and 5) ---- */
+/* ---- Places in the tables (01, Job file, parts 2, 4 and 5; 02, (c)) ---- */
 
-/* 2·((a·W + w)·(C+1) + c), multiplied out. */
+/* The column at a lamp of this kind. That at the line's end is the end kind itself. */
+static inline unsigned lamp_column(const struct job *job, unsigned kind)
+{
+    return job->ends - 1 + kind;
+}
+
+/* 2·((a·W + w)·(E+C) + c), multiplied out. */
 static inline const uint8_t *cell_of(const struct job *job, unsigned action, world_state world, unsigned column)
 {
     return job->cells + action * job->action_bytes + world.number * job->world_bytes + 2 * column;

@@ -25,10 +25,13 @@ static world_state lowest_in(uint64_t worlds)
     return (world_state){(unsigned)__builtin_ctzll(worlds)};
 }
 
-/* A lamp that is come to may be of any kind, or there is none and the line ends: no entry so far depends on what is ahead. */
+/*
+ * A lamp that is come to may be of any kind, or there is none and the line ends, in any end kind (02, (c)): no entry so far
+ * depends on what is ahead.
+ */
 static void set_all_columns(const struct job *job, struct possible *now, uint64_t worlds)
 {
-    for (unsigned column = END_COLUMN; column < job->columns; column++)
+    for (unsigned column = 0; column < job->columns; column++)
         now->worlds[column] = worlds;
 }
 
@@ -73,7 +76,7 @@ static uint64_t worlds_after(const struct job *job, const uint8_t *entry, unsign
 static bool step(const struct job *job, const uint8_t *entry, struct possible *now)
 {
     uint64_t somewhere = 0;
-    for (unsigned column = END_COLUMN; column < job->columns; column++) {
+    for (unsigned column = 0; column < job->columns; column++) {
         now->worlds[column] = worlds_after(job, entry, column, now->worlds[column]);
         somewhere |= now->worlds[column];
     }

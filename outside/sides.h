@@ -14,7 +14,8 @@ struct side {
     const char *name;
     uint64_t (*read)(const uint8_t *file, size_t file_size, uint16_t head[NESSFLURRY_HEAD_SIZE]);
     uint64_t (*walk)(const uint8_t *file, size_t file_size, uint8_t state, uint8_t world, uint8_t column);
-    uint64_t (*run)(const uint8_t *file, size_t file_size, uint8_t start, const uint8_t *line, size_t lamps, uint32_t limit);
+    uint64_t (*run)(const uint8_t *file, size_t file_size, uint8_t start, const uint8_t *line, size_t lamps, uint8_t end,
+                    uint32_t limit);
     check_call *check;
     check_up_to_call *check_up_to;
     uint64_t (*begin)(const uint8_t *file, size_t file_size, uint16_t lamps);

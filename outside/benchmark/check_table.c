@@ -62,6 +62,10 @@ static const struct {
     {"long walks", JOB_WORK, FULL},
 };
 
+/* The largest jobs once more, with half of their columns end kinds. */
+static const enum sized_job with_8_ends[] = {JOB_LONG_FAILURE, JOB_AT_ONCE, JOB_RANDOM_FAILURE, JOB_ACCEPTED,
+                                             JOB_RANDOM,       JOB_WALK,    JOB_WORK};
+
 static void print_check(const char *class, const struct subject *subject)
 {
     double best[CHECK_SIDES], to_better;
@@ -87,17 +91,22 @@ void print_checks(void)
     }
     steps_subject(&subject);
     print_check("long walks", &subject);
+    for (size_t i = 0; i < sizeof with_8_ends / sizeof *with_8_ends; i++) {
+        sized_subject(&subject, with_8_ends[i], FULL_8_ENDS);
+        print_check("8 end kinds", &subject);
+    }
 }
 
 /* ---- Up to a number of lamps ---- */
 
-/* The first job fails after 3,585 lamps, so the search is over at once, soon, half way and at its end; the other is right. */
+/* The first job fails after 3,585 lamps, so the search is over at once, soon, half way and at its end; the others are right. */
 static const struct {
     enum sized_job which;
+    enum size size;
     uint16_t longest;
 } up_to[] = {
-    {JOB_LONG_FAILURE, 0}, {JOB_LONG_FAILURE, 1}, {JOB_LONG_FAILURE, 1792}, {JOB_LONG_FAILURE, 65535}, {JOB_RANDOM, 3},
-    {JOB_RANDOM, 65535},
+    {JOB_LONG_FAILURE, FULL, 0}, {JOB_LONG_FAILURE, FULL, 1}, {JOB_LONG_FAILURE, FULL, 1792}, {JOB_LONG_FAILURE, FULL, 65535},
+    {JOB_RANDOM, FULL, 3},       {JOB_RANDOM, FULL, 65535},   {JOB_RANDOM, FULL_8_ENDS, 3},
 };
 
 static void print_check_up_to(struct subject *subject, uint16_t longest)
@@ -121,7 +130,7 @@ void print_checks_up_to(void)
     print_check_up_to(&subject, 0);
     print_check_up_to(&subject, NESSFLURRY_MAX_LAMPS);
     for (size_t i = 0; i < sizeof up_to / sizeof *up_to; i++) {
-        sized_subject(&subject, up_to[i].which, FULL);
+        sized_subject(&subject, up_to[i].which, up_to[i].size);
         print_check_up_to(&subject, up_to[i].longest);
     }
 }

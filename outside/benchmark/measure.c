@@ -26,7 +26,7 @@ uint64_t call_reader(int side, const struct subject *subject)
 uint64_t call_run(int side, const struct subject *subject)
 {
     const struct file *file = &subject->file;
-    return sides[side].run(file->bytes, file->size, subject->start, subject->line, subject->lamps, UINT32_MAX);
+    return sides[side].run(file->bytes, file->size, subject->start, subject->line, subject->lamps, subject->end, UINT32_MAX);
 }
 
 uint64_t call_check(int side, const struct subject *subject)
@@ -122,7 +122,7 @@ void print_answer(side_call *call, const struct subject *subject, uint64_t answe
     else if (code == NESSFLURRY_NONE_UP_TO)
         printf("  none up to %d lamps\n", nessflurry_lamps_of(answer));
     else if (call == call_check || call == call_check_up_to)
-        printf("  %s after %d lamps\n", endings[code], nessflurry_lamps_of(answer));
+        printf("  %s after %d lamps, end kind %d\n", endings[code], nessflurry_lamps_of(answer), nessflurry_end_of(answer));
     else if (call == call_replay)
         printf("  %zu entries, %s\n", entries_of(&subject->log), code == NESSFLURRY_POSSIBLE ? "possible" : "impossible");
     else

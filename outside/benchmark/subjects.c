@@ -12,7 +12,8 @@ static uint8_t kind_that_leads_on(const struct subject *subject, size_t lamp, ui
 {
     for (size_t tries = 0; tries < subject->job.kinds; tries++) {
         uint8_t kind = (uint8_t)(1 + (lamp + tries) % subject->job.kinds);
-        uint64_t answer = plain_walk(subject->file.bytes, subject->file.size, *state, *world, kind);
+        uint8_t column = lamp_column(&subject->job, kind);
+        uint64_t answer = plain_walk(subject->file.bytes, subject->file.size, *state, *world, column);
         if (nessflurry_code_of(answer) == NESSFLURRY_ARRIVED && nessflurry_state_of(answer) != subject->job.states) {
             *state = nessflurry_state_of(answer);
             *world = nessflurry_world_of(answer);
@@ -22,10 +23,11 @@ static uint8_t kind_that_leads_on(const struct subject *subject, size_t lamp, ui
     return 0;
 }
 
-/* A line along which the run goes on as far as it can. */
+/* A line along which the run goes on as far as it can, and the highest end kind. */
 static void choose_line(struct subject *subject)
 {
     uint8_t state = subject->job.first, world = subject->start, kind;
+    subject->end = subject->job.last_end;
     subject->lamps = 0;
     while (subject->lamps < RUN_LAMPS && (kind = kind_that_leads_on(subject, subject->lamps, &state, &world)) != 0)
         subject->line[subject->lamps++] = kind;
@@ -41,7 +43,7 @@ static uint8_t next_kind(const struct subject *subject, const struct execution *
 void take_log(struct subject *subject, size_t most)
 {
     static uint8_t line[MOST_ENTRIES];
-    struct execution at = begun(&subject->job, subject->start, line, 0);
+    struct execution at = begun(&subject->job, subject->start, line, 0, subject->end);
     for (subject->log.size = 0; entries_of(&subject->log) < most; add_steps(&subject->log, &at, 1)) {
         if (at.passed == at.lamps)
             line[at.lamps++] = next_kind(subject, &at);

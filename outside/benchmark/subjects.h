@@ -13,7 +13,7 @@ struct subject {
     char name[NAME_BYTES];
     struct job job;
     struct file file;
-    uint8_t start, line[RUN_LAMPS], result;
+    uint8_t start, line[RUN_LAMPS], end, result;
     uint16_t longest;
     size_t lamps;
     struct log log;

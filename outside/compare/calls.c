@@ -116,13 +116,14 @@ uint64_t compare_action(uint8_t state, uint16_t lamps) { return compare_call(ACT
 
 uint64_t compare_report(uint8_t state, uint16_t lamps, uint8_t result) { return compare_call(REPORT, state, lamps, result); }
 
-uint64_t compare_run(uint8_t start, const uint8_t *line, size_t lamps, uint32_t limit)
+uint64_t compare_run(uint8_t start, const uint8_t *line, size_t lamps, uint8_t end, uint32_t limit)
 {
     uint64_t answers[SIDES];
-    place_call(RUN, start, lamps, limit);
+    place_call(RUN, start, lamps, end);
+    place.arguments[3] = limit;
     for (int i = 0; i < SIDES; i++) {
         const uint8_t *lamp_kinds = lend_or_null(&lent[i].line, LINE, line, lamps);
-        answers[i] = sides[i].run(bytes[i], size, start, lamp_kinds, lamps, limit);
+        answers[i] = sides[i].run(bytes[i], size, start, lamp_kinds, lamps, end, limit);
         demand(memcmp(lent[i].line.at, line, lamps) == 0 && guard_holds(&lent[i].line), "the line as it was");
     }
     return settle(answers);

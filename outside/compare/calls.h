@@ -15,7 +15,7 @@ void take_file(const struct file *file, struct random *random);
 
 uint64_t compare_read(struct random *random);
 uint64_t compare_walk(uint8_t state, uint8_t world, uint8_t column);
-uint64_t compare_run(uint8_t start, const uint8_t *line, size_t lamps, uint32_t limit);
+uint64_t compare_run(uint8_t start, const uint8_t *line, size_t lamps, uint8_t end, uint32_t limit);
 uint64_t compare_begin(uint16_t lamps);
 uint64_t compare_action(uint8_t state, uint16_t lamps);
 uint64_t compare_report(uint8_t state, uint16_t lamps, uint8_t result);

@@ -45,6 +45,11 @@ size_t choose_line(const struct job *job, struct random *random, uint8_t line[NE
     return lamps;
 }
 
+uint8_t any_end(const struct job *job, struct random *random)
+{
+    return one_in(random, 12) ? not_below(random, ends_of(job)) : choose_end(job, random);
+}
+
 static size_t choose_entries(struct random *random)
 {
     switch (below(random, 100)) {

@@ -16,6 +16,9 @@ uint8_t any_start(const struct job *job, struct random *random);
 /* A line as anyone might hand it in: sometimes with a kind that no lamp has, sometimes too long. Answers its lamps. */
 size_t choose_line(const struct job *job, struct random *random, uint8_t line[NESSFLURRY_MAX_LAMPS + 1]);
 
+/* An end kind as anyone might hand it in: sometimes one that the job does not have. */
+uint8_t any_end(const struct job *job, struct random *random);
+
 /* A log as anyone might hand it in: sometimes with an action or a result that the job does not have, odd or too long. */
 void choose_log(const struct job *job, struct random *random, struct log *log);
 

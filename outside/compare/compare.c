@@ -2,6 +2,7 @@
  * The outside test. Job files, sound and damaged, are made from their numbers; every operation is called on each of them on
  * both sides and compared, and what the demands say of several calls together is tried. All of it is done on a stack of the
  * size that nessflurry.h says a check needs; and the checks of the largest jobs are made first, each with that stack for itself.
+ * At last files of one end kind are answered, and have to have the answers that they had before there were several.
  *
  *     compare           the standard run
  *     compare long      some twenty times as many files
@@ -11,6 +12,7 @@
 #define _DEFAULT_SOURCE
 #include "calls.h"
 #include "nessflurry.h"
+#include "old_answers.h"
 #include "small_stack.h"
 #include "tally.h"
 #include "trials.h"
@@ -83,7 +85,7 @@ struct numbers {
 
 static struct numbers chosen_numbers(int argc, char **argv)
 {
-    enum { STANDARD = FIRST_RANDOM + 25000, LONG = FIRST_RANDOM + 20 * 25000 };
+    enum { STANDARD = FIRST_RANDOM + 40000, LONG = FIRST_RANDOM + 20 * 40000 };
     if (argc == 3 && strcmp(argv[1], "only") == 0) {
         uint32_t number = (uint32_t)strtoul(argv[2], NULL, 10);
         return (struct numbers){number, number + 1, 1};
@@ -113,6 +115,13 @@ static void try_large(void)
     printf("a check of the largest jobs takes at most %zu of %d bytes of stack\n", most_stack_taken(), NESSFLURRY_CHECK_STACK);
 }
 
+/* They are many files, for which there is more patience than for one. */
+static bool old_answers_moved(void)
+{
+    alarm(10 * PATIENCE_SECONDS);
+    return !old_answers_hold();
+}
+
 int main(int argc, char **argv)
 {
     struct numbers numbers = chosen_numbers(argc, argv);
@@ -125,7 +134,8 @@ int main(int argc, char **argv)
     try_large();
     on_small_stack(try_all, &numbers);
     print_tally();
-    bool something_missing = numbers.to - numbers.from > 1 && !all_seen();
+    bool only_one = numbers.to - numbers.from == 1;
+    bool something_missing = !only_one && !all_seen(), something_moved = !only_one && old_answers_moved();
     print_comparisons();
-    return something_missing || differences() > 0;
+    return something_missing || something_moved || differences() > 0;
 }

@@ -22,7 +22,7 @@ static const struct {
               {"goal", "failure 1", "failure 2", "failure 3", "failure 4", NULL, "arrived"},
               NUMBERS(1, 11) | NUMBERS(14, 16)},
     [RUN] = {"run",
-             {"start", "lamps", "limit"},
+             {"start", "lamps", "end", "limit"},
              {"goal", "failure 1", "failure 2", "failure 3", "failure 4", "stopped"},
              NUMBERS(1, 11) | NUMBERS(14, 15)},
     [CHECK] = {"check",
@@ -53,6 +53,7 @@ static struct {
 
 static uint64_t compared, differing;
 static uint32_t most_pairs, longest_failing_line, most_possible_bytes, furthest_place;
+static uint64_t failures[MOST_ENDS]; /* of the full check, by end kind */
 
 static const char *const lendable_names[LENDABLE] = {"file", "line", "line buffer", "list", "words", "log"};
 static uint64_t nulls[LENDABLE];
@@ -108,13 +109,22 @@ static void note_most(uint32_t *most, uint32_t count)
         *most = count;
 }
 
+static void note_failure(uint64_t answer)
+{
+    uint8_t end = nessflurry_end_of(answer);
+    note_most(&longest_failing_line, nessflurry_lamps_of(answer));
+    demand(end < MOST_ENDS, "an end kind that a job can have");
+    if (end < MOST_ENDS)
+        failures[end]++;
+}
+
 static void note_extremes(enum operation operation, uint64_t answer)
 {
     uint8_t code = nessflurry_code_of(answer);
     if (operation == CHECK && code == NESSFLURRY_ACCEPTED)
         note_most(&most_pairs, nessflurry_pairs_of(answer));
     else if (operation == CHECK)
-        note_most(&longest_failing_line, nessflurry_lamps_of(answer));
+        note_failure(answer);
     else if (operation == REPLAY && code == NESSFLURRY_POSSIBLE)
         note_most(&most_possible_bytes, (uint32_t)place.arguments[0]);
     else if (operation == REPLAY)
@@ -168,7 +178,11 @@ void print_tally(void)
     printf("lent as NULL:");
     for (enum lendable what = JOB_FILE; what < LENDABLE; what++)
         printf("%s %s %" PRIu64, what == JOB_FILE ? "" : ",", lendable_names[what], nulls[what]);
-    printf("\nmost pairs reached %" PRIu32 ", longest failing line %" PRIu32 " lamps\n", most_pairs, longest_failing_line);
+    printf("\nmost pairs reached %" PRIu32 ", longest failing line %" PRIu32 " lamps; failures by end kind:", most_pairs,
+           longest_failing_line);
+    for (int end = 0; end < MOST_ENDS; end++)
+        printf(" %" PRIu64, failures[end]);
+    printf("\n");
     printf("longest possible log %" PRIu32 " bytes, furthest place of an impossible one %" PRIu32 "\n", most_possible_bytes,
            furthest_place);
 }
@@ -197,9 +211,21 @@ static bool longest_log_seen(void)
     return false;
 }
 
+static bool end_kinds_seen(void)
+{
+    bool all = true;
+    for (int end = 0; end < MOST_ENDS; end++)
+        if (failures[end] == 0) {
+            printf("never seen: check failing with end kind %d\n", end);
+            all = false;
+        }
+    return all;
+}
+
 bool all_seen(void)
 {
     bool all = longest_log_seen();
+    all = end_kinds_seen() && all;
     for (enum operation operation = READ; operation < OPERATIONS; operation++)
         all = seen(operation) && all;
     for (enum lendable what = JOB_FILE; what < LENDABLE; what++)

@@ -32,8 +32,8 @@ void demand_equal(uint64_t nessflurry, uint64_t plain);
 void print_tally(void);
 
 /*
- * Whether every answer and every refusal of every operation, each thing as NULL and a possible log of the greatest length have
- * been seen; names what has not.
+ * Whether every answer and every refusal of every operation, a failure with each end kind, each thing as NULL and a possible
+ * log of the greatest length have been seen; names what has not.
  */
 bool all_seen(void);
 

@@ -18,7 +18,10 @@ static void damage_file(struct trial *trial)
 
 static void scramble_file(struct trial *trial)
 {
-    scramble(&trial->file, &trial->random);
+    if (one_in(&trial->random, 4))
+        shift_columns(&trial->file, &trial->job, &trial->random);
+    else
+        scramble(&trial->file, &trial->random);
     if (one_in(&trial->random, 8))
         resize(&trial->file, below(&trial->random, 41), &trial->random);
     trial->sound = false;
@@ -34,15 +37,25 @@ static void make_random(struct trial *trial)
         scramble_file(trial);
 }
 
+static void make_numbered_job(struct job *job, uint32_t number)
+{
+    uint32_t large = number - FIRST_LARGE;
+    if (number >= FIRST_LARGE)
+        sized_job(job, large % SIZED_JOBS, FULL + large / SIZED_JOBS);
+    else if (number >= FIRST_ENDS && number < FIRST_SIZE)
+        three_ends_job(job);
+    else
+        bench_line(job, number >= FIRST_BENCH ? number - FIRST_BENCH : BENCH_G);
+}
+
 static void make_numbered(struct trial *trial, uint32_t number)
 {
-    if (number >= FIRST_LARGE)
-        sized_job(&trial->job, number - FIRST_LARGE, FULL);
-    else
-        bench_line(&trial->job, number >= FIRST_BENCH ? number - FIRST_BENCH : BENCH_G);
+    make_numbered_job(&trial->job, number);
     write_file(&trial->file, &trial->job, &trial->random);
-    if (number < FIRST_SIZE)
+    if (number < FIRST_ENDS)
         trial->file.bytes[number / 256] = (uint8_t)number;
+    else if (number < FIRST_SIZE)
+        trial->file.bytes[(number - FIRST_ENDS) / 256] = (uint8_t)number;
     else if (number < FIRST_BENCH)
         resize_bench(trial, number - FIRST_SIZE);
 }

@@ -17,10 +17,12 @@ struct trial {
 /* Trials are numbered from 0. From FIRST_RANDOM on they are random; those before go through what can be gone through. */
 enum {
     BENCH_BYTES = 128,                               /* of bench line G's file */
-    FIRST_SIZE = BENCH_BYTES * 256,                  /* before it: that file with each byte at each value */
-    FIRST_BENCH = FIRST_SIZE + BENCH_BYTES + 32 + 3, /* before it: that file at sizes up to 159 and at the largest three */
+    ENDS_BYTES = 190,                                /* of that of the job of three end kinds */
+    FIRST_ENDS = BENCH_BYTES * 256,                  /* before it: the first of the two with each byte at each value */
+    FIRST_SIZE = FIRST_ENDS + ENDS_BYTES * 256,      /* before it: the second one like this */
+    FIRST_BENCH = FIRST_SIZE + BENCH_BYTES + 32 + 3, /* before it: the first at sizes up to 159 and at the largest three */
     FIRST_LARGE = FIRST_BENCH + BENCH_VARIANTS,
-    FIRST_RANDOM = FIRST_LARGE + SIZED_JOBS
+    FIRST_RANDOM = FIRST_LARGE + (SIZES - FULL) * SIZED_JOBS
 };
 void make_trial(struct trial *trial, uint32_t number);
 

@@ -77,7 +77,8 @@ void lead_cabinet(struct trial *trial, bool accepted)
     static uint8_t line[100];
     const struct job *job = &trial->job;
     size_t lamps = below(&trial->random, one_in(&trial->random, 10) ? sizeof line + 1 : 10);
-    struct execution at = begun(job, marked_start(job, &trial->random), line, lamps);
+    uint8_t start = marked_start(job, &trial->random), end = choose_end(job, &trial->random);
+    struct execution at = begun(job, start, line, lamps, end);
     choose_kinds(job, &trial->random, line, lamps);
     if (lead(&at, &trial->random, MOST_STEPS) && accepted)
         demand(ended(&at) && job->goal[at.world][column(&at)], "state S with the goal true, after an accepted plan");

@@ -18,9 +18,9 @@ static uint32_t high_limit(const struct job *job, size_t lamps)
 }
 
 /* The run of a line that has this ending without a limit. */
-static void try_limit(uint8_t start, const uint8_t *kinds, size_t lamps, uint32_t limit, uint64_t ending)
+static void try_limit(uint8_t start, const uint8_t *kinds, size_t lamps, uint8_t end, uint32_t limit, uint64_t ending)
 {
-    uint64_t answer = compare_run(start, kinds, lamps, limit);
+    uint64_t answer = compare_run(start, kinds, lamps, end, limit);
     if (limit >= nessflurry_steps_of(ending))
         demand(answer == ending, "the same ending within the limit");
     else
@@ -30,16 +30,17 @@ static void try_limit(uint8_t start, const uint8_t *kinds, size_t lamps, uint32_
 void try_run(struct trial *trial)
 {
     struct random *random = &trial->random;
-    uint8_t start = any_start(&trial->job, random);
+    uint8_t start = any_start(&trial->job, random), end = any_end(&trial->job, random);
     size_t lamps = choose_line(&trial->job, random, line);
-    uint64_t ending = compare_run(start, line, lamps, high_limit(&trial->job, lamps));
+    uint64_t ending = compare_run(start, line, lamps, end, high_limit(&trial->job, lamps));
+    demand(is_end(&trial->job, end) || ends_in(ending, NESSFLURRY_REFUSED), "no run to an end that the job does not have");
     if (ends_in(ending, NESSFLURRY_REFUSED) || ends_in(ending, NESSFLURRY_STOPPED))
         return;
     uint32_t steps = nessflurry_steps_of(ending);
     uint32_t any = (uint32_t)random_word(random), less = below(random, steps + 1);
     const uint32_t limits[] = {0, 1, steps, steps - 1, steps + 1, UINT32_MAX, any, less};
     for (int more = 0; more < 3; more++)
-        try_limit(start, line, lamps, limits[below(random, 8)], ending);
+        try_limit(start, line, lamps, end, limits[below(random, 8)], ending);
 }
 
 void try_short_buffers(struct trial *trial)
@@ -59,10 +60,10 @@ void try_short_buffers(struct trial *trial)
 }
 
 /* The run of a line that cannot fail by what the check has answered. */
-static void expect_goal(struct trial *trial, uint8_t start, size_t lamps)
+static void expect_goal(struct trial *trial, uint8_t start, const uint8_t *kinds, size_t lamps, uint8_t end)
 {
     uint32_t limit = high_limit(&trial->job, lamps);
-    uint64_t answer = compare_run(start, line, lamps, limit);
+    uint64_t answer = compare_run(start, kinds, lamps, end, limit);
     bool cut_short = limit != UINT32_MAX && ends_in(answer, NESSFLURRY_STOPPED);
     demand(cut_short || ends_in(answer, NESSFLURRY_GOAL), "goal, as the check has answered");
 }
@@ -71,55 +72,67 @@ static void follow_accepted(struct trial *trial)
 {
     for (int more = 0; more < 3; more++) {
         size_t lamps = below(&trial->random, one_in(&trial->random, 100) ? NESSFLURRY_MAX_LAMPS + 1 : 40);
+        uint8_t start = marked_start(&trial->job, &trial->random), end = choose_end(&trial->job, &trial->random);
         choose_kinds(&trial->job, &trial->random, line, lamps);
-        expect_goal(trial, marked_start(&trial->job, &trial->random), lamps);
+        expect_goal(trial, start, line, lamps, end);
     }
 }
 
-/* A shorter line than the failing one does not fail: any, or its front. */
+/* A shorter line than the failing one does not fail, whatever its end: any, or its front. */
 static void try_shorter(struct trial *trial, uint32_t failing_lamps)
 {
     size_t lamps = below(&trial->random, failing_lamps);
+    uint8_t start = marked_start(&trial->job, &trial->random), end = choose_end(&trial->job, &trial->random);
     if (one_in(&trial->random, 2))
         choose_kinds(&trial->job, &trial->random, line, lamps);
     else
         memcpy(line, failing_line, lamps);
-    expect_goal(trial, marked_start(&trial->job, &trial->random), lamps);
+    expect_goal(trial, start, line, lamps, end);
 }
 
-/* Nor does a line as long as it that comes before it: from a lower start, or with a lower kind where the two first differ. */
+/*
+ * Nor does a line as long as it that comes before it, whatever its end: from a lower start, or with a lower kind where the two
+ * first differ.
+ */
 static void try_earlier(struct trial *trial, uint8_t failing_start, uint32_t lamps)
 {
-    uint8_t start = marked_start(&trial->job, &trial->random);
-    uint32_t differs = below(&trial->random, lamps);
+    uint8_t start = marked_start(&trial->job, &trial->random), end = choose_end(&trial->job, &trial->random);
+    uint32_t differs = lamps > 0 ? below(&trial->random, lamps) : 0;
     choose_kinds(&trial->job, &trial->random, line, lamps);
     if (start >= failing_start) {
-        if (failing_line[differs] == 1)
+        if (lamps == 0 || failing_line[differs] == 1)
             return;
         start = failing_start;
         memcpy(line, failing_line, differs);
         line[differs] = (uint8_t)(1 + below(&trial->random, failing_line[differs] - 1u));
     }
-    expect_goal(trial, start, lamps);
+    expect_goal(trial, start, line, lamps, end);
+}
+
+/* Nor do its own lamps with a lower end kind. So a failure at a lamp, which comes with every end kind, is told with 0. */
+static void try_lower_ends(struct trial *trial, uint64_t failed)
+{
+    for (uint8_t end = 0; end < nessflurry_end_of(failed); end++)
+        expect_goal(trial, nessflurry_start_of(failed), failing_line, nessflurry_lamps_of(failed), end);
 }
 
 static void follow_failed(struct trial *trial, uint64_t failed)
 {
-    uint8_t start = nessflurry_start_of(failed);
+    uint8_t start = nessflurry_start_of(failed), end = nessflurry_end_of(failed);
     uint32_t lamps = nessflurry_lamps_of(failed), most = (uint32_t)trial->job.states * trial->job.worlds + 1;
     demand(lamps <= most, "a failing line of at most S·W + 1 lamps");
     if (lamps > most)
         return;
-    uint64_t ending = compare_run(start, failing_line, lamps, UINT32_MAX);
+    uint64_t ending = compare_run(start, failing_line, lamps, end, UINT32_MAX);
     demand(ends_in(ending, nessflurry_code_of(failed)), "the named failure, from the run of the failing line");
     uint32_t steps = nessflurry_steps_of(ending);
-    try_limit(start, failing_line, lamps, steps, ending);
+    try_limit(start, failing_line, lamps, end, steps, ending);
     if (steps > 0)
-        try_limit(start, failing_line, lamps, steps - 1, ending);
-    if (lamps > 0) {
+        try_limit(start, failing_line, lamps, end, steps - 1, ending);
+    if (lamps > 0)
         try_shorter(trial, lamps);
-        try_earlier(trial, start, lamps);
-    }
+    try_earlier(trial, start, lamps);
+    try_lower_ends(trial, failed);
 }
 
 bool try_checks(struct trial *trial)

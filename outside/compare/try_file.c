@@ -16,21 +16,21 @@ static void try_walk(struct trial *trial)
 {
     struct random *random = &trial->random;
     uint8_t state = about(random, trial->job.states + 1u), world = about(random, trial->job.worlds);
-    expect_due(trial, compare_walk(state, world, about(random, trial->job.kinds + 1u)));
+    expect_due(trial, compare_walk(state, world, about(random, columns_of(&trial->job))));
 }
 
 /* All walks of a small job, beyond its states, worlds and columns too; some of a larger one. */
 void try_walks(struct trial *trial)
 {
     const struct job *job = &trial->job;
-    if (job->states * job->worlds * job->kinds > 16) {
+    if (job->states * job->worlds * (columns_of(job) - 1) > 16) {
         for (int more = 0; more < 6; more++)
             try_walk(trial);
         return;
     }
     for (uint8_t state = 0; state <= job->states + 1; state++)
         for (uint8_t world = 0; world <= job->worlds; world++)
-            for (uint8_t column = 0; column <= job->kinds + 1; column++)
+            for (uint8_t column = 0; column <= columns_of(job); column++)
                 compare_walk(state, world, column);
 }
 
@@ -52,8 +52,8 @@ static void try_any_run(struct trial *trial)
 {
     static uint8_t line[NESSFLURRY_MAX_LAMPS + 1];
     size_t lamps = choose_line(&trial->job, &trial->random, line);
-    uint8_t start = any_start(&trial->job, &trial->random);
-    expect_due(trial, compare_run(start, line, lamps, below(&trial->random, 1000)));
+    uint8_t start = any_start(&trial->job, &trial->random), end = any_end(&trial->job, &trial->random);
+    expect_due(trial, compare_run(start, line, lamps, end, below(&trial->random, 1000)));
 }
 
 /* The file's refusal comes before those of the buffers. */

@@ -47,12 +47,12 @@ static void try_log(const struct log *log, struct random *random)
 static struct execution log_line(struct trial *trial, size_t lamps, size_t most)
 {
     static uint8_t line[NESSFLURRY_MAX_LAMPS];
-    uint8_t start = marked_start(&trial->job, &trial->random);
-    struct execution at = begun(&trial->job, start, line, lamps);
+    uint8_t start = marked_start(&trial->job, &trial->random), end = choose_end(&trial->job, &trial->random);
+    struct execution at = begun(&trial->job, start, line, lamps, end);
     choose_kinds(&trial->job, &trial->random, line, lamps);
     made.size = 0;
     add_steps(&made, &at, most);
-    uint64_t ending = compare_run(start, line, lamps, (uint32_t)most);
+    uint64_t ending = compare_run(start, line, lamps, end, (uint32_t)most);
     uint8_t code = nessflurry_code_of(ending);
     size_t steps = code == NESSFLURRY_STOPPED || code == NESSFLURRY_CIRCLES ? most : nessflurry_steps_of(ending);
     demand(entries_of(&made) == steps, "an entry for each step of the run");

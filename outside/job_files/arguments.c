@@ -8,6 +8,11 @@ uint8_t marked_start(const struct job *job, struct random *random)
     return world;
 }
 
+uint8_t choose_end(const struct job *job, struct random *random)
+{
+    return job->last_end == 0 ? 0 : (uint8_t)below(random, ends_of(job));
+}
+
 void choose_kinds(const struct job *job, struct random *random, uint8_t *line, size_t lamps)
 {
     uint8_t kind = (uint8_t)(1 + below(random, job->kinds));

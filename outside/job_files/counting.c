@@ -11,30 +11,52 @@
  */
 #include "families.h"
 
-static struct cell look(const struct job *job, uint8_t sought, uint8_t world, uint8_t column)
+enum { OTHERWISE, FOUND, BOX }; /* the results of looking: the last at a box, if the job has more than two results */
+
+/* The world that another kind leaves, and a box: there the goal is true at lamps too. */
+static uint8_t other_world(const struct job *job) { return job->worlds > 1; }
+
+static bool has_boxes(const struct job *job) { return job->last_end > 0 && job->results > BOX; }
+
+/* In the other world a box is an end like the others. */
+static struct cell look_at_end(const struct job *job, uint8_t world, uint8_t end)
 {
-    uint8_t other = job->worlds > 1; /* the world that another kind leaves: there the goal is true at lamps too */
-    return (struct cell){column == sought || column == 0 ? world : other, column == sought};
+    bool box = has_boxes(job) && end % 2 == 1;
+    return box && world != other_world(job) ? (struct cell){other_world(job), BOX} : (struct cell){world, OTHERWISE};
 }
 
-static struct cell pass(const struct job *job, uint8_t looking, uint8_t world, uint8_t column)
+static struct cell look(const struct job *job, uint8_t sought, uint8_t world, uint8_t kind)
+{
+    return kind == sought ? (struct cell){world, FOUND} : (struct cell){other_world(job), OTHERWISE};
+}
+
+static struct cell pass(const struct job *job, uint8_t looking, uint8_t world, uint8_t kind)
 {
     bool wraps = world + 1 == job->worlds;
-    if (column > looking)
+    if (kind > looking)
         return (struct cell){0, 0}; /* no state of a group looks for this kind */
-    return (struct cell){wraps ? 0 : (uint8_t)(world + 1), (uint8_t)(wraps ? column : column - 1)};
+    return (struct cell){wraps ? 0 : (uint8_t)(world + 1), (uint8_t)(wraps ? kind : kind - 1)};
+}
+
+static void looking_cells(struct job *job, uint8_t action, uint8_t sought)
+{
+    for (uint8_t world = 0; world < job->worlds; world++) {
+        for (uint8_t end = 0; end < ends_of(job); end++)
+            job->cells[action][world][end] = look_at_end(job, world, end);
+        for (uint8_t kind = 1; kind <= job->kinds; kind++)
+            job->cells[action][world][lamp_column(job, kind)] = look(job, sought, world, kind);
+    }
 }
 
 /* The action with the number `looking` moves on; each other one looks for the kind after its own number, or for kind 1. */
 static void counting_cells(struct job *job, uint8_t looking)
 {
-    for (uint8_t action = 0; action < job->actions; action++) {
-        uint8_t sought = action < looking ? action + 1 : 1;
-        for (uint8_t world = 0; world < job->worlds; world++)
-            for (uint8_t column = job->marks[action]; column <= job->kinds; column++)
-                job->cells[action][world][column] =
-                    action == looking ? pass(job, looking, world, column) : look(job, sought, world, column);
-    }
+    for (uint8_t action = 0; action < job->actions; action++)
+        if (action != looking)
+            looking_cells(job, action, action < looking ? action + 1 : 1);
+    for (uint8_t world = 0; world < job->worlds; world++)
+        for (uint8_t kind = 1; kind <= job->kinds; kind++)
+            job->cells[looking][world][lamp_column(job, kind)] = pass(job, looking, world, kind);
 }
 
 static void counting_group(struct job *job, uint8_t base, uint8_t looking, uint8_t after)
@@ -42,8 +64,10 @@ static void counting_group(struct job *job, uint8_t base, uint8_t looking, uint8
     uint8_t mover = base + looking;
     for (uint8_t i = 0; i < looking; i++) {
         job->action[base + i] = i;
-        job->target[base + i][0] = job->states;
-        job->target[base + i][1] = mover;
+        job->target[base + i][OTHERWISE] = job->states;
+        job->target[base + i][FOUND] = mover;
+        if (has_boxes(job))
+            job->target[base + i][BOX] = base + i;
         job->target[mover][i] = base + i;
     }
     job->action[mover] = looking;
@@ -64,6 +88,6 @@ void counting_job(struct job *job, uint8_t last)
     for (uint8_t base = 0; base < end; base += size)
         counting_group(job, base, looking, base + size < end ? base + size : last);
     for (int world = 0; world < job->worlds; world++)
-        for (int column = 0; column <= job->kinds; column++)
-            job->goal[world][column] = world > 0 || column == 0 || job->worlds == 1;
+        for (int column = 0; column < columns_of(job); column++)
+            job->goal[world][column] = world > 0 || is_end(job, column) || job->worlds == 1;
 }

@@ -5,6 +5,8 @@
 
 enum { DEFECTS = 11 };
 
+enum { KINDS_AT = 2, LAST_END_AT = 6 }; /* of C and E - 1 in a file */
+
 /* A byte above `most`, which is below 255: the next one often. */
 static uint8_t above(struct random *random, uint8_t most)
 {
@@ -29,7 +31,10 @@ static bool wrong_size(struct file *file, const struct job *job, struct random *
 
 static bool wrong_number(struct file *file, const struct job *job, struct random *random)
 {
-    const uint8_t most[8] = {MOST_ACTIONS, MOST_WORLDS, MOST_KINDS, MOST_RESULTS, MOST_STATES, job->states, 0, 0};
+    /* C and E - 1 by what the file says of the other, since another defect may have changed that. */
+    const uint8_t most_kinds = MOST_KINDS - file->bytes[LAST_END_AT], most_last_end = MOST_KINDS - file->bytes[KINDS_AT];
+    const uint8_t most[8] = {MOST_ACTIONS, MOST_WORLDS, most_kinds,    MOST_RESULTS,
+                             MOST_STATES,  job->states, most_last_end, 0};
     uint32_t at = below(random, 8);
     bool too_low = at < 4 && one_in(random, 3); /* S, the first state and the last two bytes may be 0 */
     file->bytes[at] = too_low ? 0 : above(random, most[at]);
@@ -78,19 +83,37 @@ static bool wrong_place(struct file *file, const struct job *job, struct random 
     }
 }
 
+/* Another E or C in range, so that cells and goal have not the length that they should have. */
+static bool other_columns(struct file *file, const struct job *job, struct random *random)
+{
+    bool of_ends = one_in(random, 2);
+    uint32_t choices = of_ends ? MOST_COLUMNS - job->kinds : MOST_COLUMNS - ends_of(job);
+    if (choices == 1)
+        return false;
+    if (of_ends)
+        file->bytes[LAST_END_AT] = (uint8_t)another_below(random, choices, job->last_end);
+    else
+        file->bytes[KINDS_AT] = (uint8_t)(1 + another_below(random, choices, job->kinds - 1u));
+    return true;
+}
+
 /* Another length with which the part still ends before the next one begins. */
-static bool wrong_length(struct file *file, const struct job *job, struct random *random)
+static bool other_length(struct file *file, struct random *random)
 {
     enum part part = below(random, PARTS);
     uint32_t offset = part_offset(file, part), length = part_length(file, part);
     uint32_t room = (part == PLAN ? (uint32_t)file->size : part_offset(file, part + 1)) - offset;
     const uint32_t lengths[] = {length + 1, length - 1, 0, room, below(random, room + 1)};
     uint32_t other = lengths[below(random, 5)];
-    (void)job;
     if (other == length || other > room)
         return false;
     set_pair(file, part, (uint16_t)offset, (uint16_t)other);
     return true;
+}
+
+static bool wrong_length(struct file *file, const struct job *job, struct random *random)
+{
+    return one_in(random, 3) ? other_columns(file, job, random) : other_length(file, random);
 }
 
 static bool wrong_mark(struct file *file, const struct job *job, struct random *random)
@@ -102,7 +125,7 @@ static bool wrong_mark(struct file *file, const struct job *job, struct random *
 
 static bool wrong_cell(struct file *file, const struct job *job, struct random *random)
 {
-    uint8_t *cell = byte_of(file, CELLS, 2 * below(random, job->actions * job->worlds * (job->kinds + 1u)));
+    uint8_t *cell = byte_of(file, CELLS, 2 * below(random, (uint32_t)job->actions * job->worlds * columns_of(job)));
     switch (below(random, 3)) {
     case 0:
         cell[0] = above(random, job->worlds - 1);
@@ -121,8 +144,8 @@ static bool wrong_cell(struct file *file, const struct job *job, struct random *
 
 static bool legal_at_end(struct file *file, const struct job *job, struct random *random)
 {
-    uint32_t action = below(random, job->actions), world = below(random, job->worlds);
-    uint8_t *cell = byte_of(file, CELLS, 2 * (action * job->worlds + world) * (job->kinds + 1u));
+    uint32_t action = below(random, job->actions), world = below(random, job->worlds), end = below(random, ends_of(job));
+    uint8_t *cell = byte_of(file, CELLS, 2 * ((action * job->worlds + world) * columns_of(job) + end));
     if (!job->marks[action])
         return false;
     cell[0] = (uint8_t)below(random, job->worlds);
@@ -142,7 +165,7 @@ static bool wrong_start(struct file *file, const struct job *job, struct random 
 
 static bool wrong_goal(struct file *file, const struct job *job, struct random *random)
 {
-    uint8_t *goal = byte_of(file, GOAL, below(random, job->worlds * (job->kinds + 1u)));
+    uint8_t *goal = byte_of(file, GOAL, below(random, (uint32_t)job->worlds * columns_of(job)));
     *goal = above(random, 1);
     return true;
 }
@@ -189,4 +212,11 @@ void scramble(struct file *file, struct random *random)
         uint8_t *byte = &file->bytes[below(random, (uint32_t)among)];
         *byte = (uint8_t)random_word(random);
     }
+}
+
+void shift_columns(struct file *file, const struct job *job, struct random *random)
+{
+    uint8_t ends = (uint8_t)(1 + below(random, columns_of(job) - 1u));
+    file->bytes[LAST_END_AT] = ends - 1;
+    file->bytes[KINDS_AT] = columns_of(job) - ends;
 }

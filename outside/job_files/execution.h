@@ -12,17 +12,20 @@ struct execution {
     const struct job *job;
     const uint8_t *line;
     size_t lamps, passed;
-    uint8_t state, world;
+    uint8_t end, state, world;
 };
 
-static inline struct execution begun(const struct job *job, uint8_t start, const uint8_t *line, size_t lamps)
+static inline struct execution begun(const struct job *job, uint8_t start, const uint8_t *line, size_t lamps, uint8_t end)
 {
-    return (struct execution){job, line, lamps, 0, job->first, start};
+    return (struct execution){job, line, lamps, 0, end, job->first, start};
 }
 
 static inline bool ended(const struct execution *at) { return at->state == at->job->states; }
 
-static inline uint8_t column(const struct execution *at) { return at->passed < at->lamps ? at->line[at->passed] : 0; }
+static inline uint8_t column(const struct execution *at)
+{
+    return at->passed < at->lamps ? lamp_column(at->job, at->line[at->passed]) : at->end;
+}
 
 /* The action of an execution that has not ended. */
 static inline uint8_t due_action(const struct execution *at) { return at->job->action[at->state]; }

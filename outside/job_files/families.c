@@ -3,6 +3,8 @@
  */
 #include "families.h"
 
+#include "arguments.h"
+
 /* ---- Numbers, starts and gaps ---- */
 
 static uint8_t number(struct random *random, uint8_t least, uint8_t most)
@@ -16,16 +18,32 @@ static uint8_t number(struct random *random, uint8_t least, uint8_t most)
     }
 }
 
+/* End kinds for which there is room beside the lamp kinds, often all; where there is none, some columns are taken from those. */
+static void choose_ends(struct job *job, struct random *random)
+{
+    uint8_t most = MOST_KINDS - job->kinds;
+    if (most > 0) {
+        job->last_end = one_in(random, 4) ? most : number(random, 0, most);
+    } else {
+        job->last_end = (uint8_t)below(random, MOST_ENDS);
+        job->kinds = MOST_KINDS - job->last_end;
+    }
+}
+
 /* Of actions, results and states at least these. */
-static void choose_numbers(struct job *job, struct random *random, uint8_t actions, uint8_t results, uint8_t states)
+static void choose_numbers(struct job *job, struct random *random, bool several_ends, uint8_t actions, uint8_t results,
+                           uint8_t states)
 {
     job->actions = number(random, actions, MOST_ACTIONS);
     job->worlds = number(random, 1, MOST_WORLDS);
     job->kinds = number(random, 1, MOST_KINDS);
     job->results = number(random, results, MOST_RESULTS);
     job->states = number(random, states, MOST_STATES);
+    job->last_end = 0;
     if (one_in(random, 60))
         largest_numbers(job);
+    if (several_ends)
+        choose_ends(job, random);
 }
 
 static void choose_starts(struct job *job, struct random *random)
@@ -38,7 +56,7 @@ static void choose_starts(struct job *job, struct random *random)
 
 static uint32_t bytes_without_gaps(const struct job *job)
 {
-    uint32_t columns = job->kinds + 1u;
+    uint32_t columns = columns_of(job);
     return 28u + job->actions + 2u * job->actions * job->worlds * columns + job->worlds + job->worlds * columns
            + job->states * (1u + job->results);
 }
@@ -68,7 +86,7 @@ static void wild_cells(struct job *job, struct random *random)
     uint32_t legality = 1 + below(random, 16);
     for (int action = 0; action < job->actions; action++)
         for (int world = 0; world < job->worlds; world++)
-            for (int column = job->marks[action]; column <= job->kinds; column++)
+            for (int column = first_legal(job, action); column < columns_of(job); column++)
                 if (legality == 1 || !one_in(random, legality))
                     job->cells[action][world][column] = legal_cell(job, random);
 }
@@ -85,16 +103,16 @@ static void wild_plan(struct job *job, struct random *random)
 }
 
 /* Tables with no meaning at all; most of these plans fail within a few lamps. */
-static void wild_job(struct job *job, struct random *random)
+static void wild_job(struct job *job, struct random *random, bool several_ends)
 {
     uint32_t goal_rarity = 1 + below(random, 12);
-    choose_numbers(job, random, 1, 1, 0);
+    choose_numbers(job, random, several_ends, 1, 1, 0);
     clear_tables(job);
     for (int action = 0; action < job->actions; action++)
         job->marks[action] = one_in(random, 3);
     wild_cells(job, random);
     for (int world = 0; world < job->worlds; world++)
-        for (int column = 0; column <= job->kinds; column++)
+        for (int column = 0; column < columns_of(job); column++)
             job->goal[world][column] = goal_rarity == 1 || !one_in(random, goal_rarity);
     wild_plan(job, random);
     job->first = (uint8_t)below(random, job->states + 1u);
@@ -102,19 +120,31 @@ static void wild_job(struct job *job, struct random *random)
 
 /* ---- Plans that are right ---- */
 
-enum { LOOK, PASS }; /* two actions of a right plan: LOOK has result 0 at the line's end only, PASS moves on */
+enum { LOOK, PASS }; /* two actions of a right plan: LOOK has its lowest results at the line's end only, PASS moves on */
+
+/* The results of LOOK at the line's end: one for each end kind, as long as one is left for lamps. */
+static uint8_t end_results(const struct job *job)
+{
+    return ends_of(job) < job->results ? ends_of(job) : (uint8_t)(job->results - 1);
+}
+
+static uint8_t look_result(const struct job *job, struct random *random, uint32_t column)
+{
+    uint8_t told = end_results(job);
+    return is_end(job, column) ? (uint8_t)(column % told) : (uint8_t)(told + below(random, job->results - told));
+}
 
 static void right_cells(struct job *job, struct random *random)
 {
     bool slow = one_in(random, 2); /* worlds rise one at a time, so that some are reached by long lines only */
     for (int action = 0; action < job->actions; action++)
         for (int world = 0; world < job->worlds; world++)
-            for (int column = job->marks[action]; column <= job->kinds; column++) {
+            for (int column = first_legal(job, action); column < columns_of(job); column++) {
                 uint32_t worlds = slow && world + 2 < job->worlds ? world + 2u : job->worlds;
                 struct cell *cell = &job->cells[action][world][column];
                 cell->next = (uint8_t)below(random, worlds);
                 if (action == LOOK)
-                    cell->result = column == 0 ? 0 : (uint8_t)(1 + below(random, job->results - 1u));
+                    cell->result = look_result(job, random, column);
                 else
                     cell->result = (uint8_t)below(random, job->results);
             }
@@ -135,6 +165,14 @@ static void lamp_state(struct job *job, struct random *random, uint8_t state, ui
     }
 }
 
+/* Where a state that looks goes from the line's end: the plan is over, or for all results but 0 a later state looks again. */
+static uint8_t after_end(const struct job *job, struct random *random, uint8_t state, uint8_t looking, int result)
+{
+    if (result == 0 || state + 1 == looking || one_in(random, 2))
+        return job->states;
+    return (uint8_t)(state + 1 + below(random, looking - state - 1u));
+}
+
 static void right_plan(struct job *job, struct random *random, bool may_end)
 {
     uint8_t looking = (uint8_t)(1 + below(random, job->states - 1u));
@@ -142,7 +180,8 @@ static void right_plan(struct job *job, struct random *random, bool may_end)
     for (uint8_t state = 0; state < looking; state++) {
         job->action[state] = LOOK;
         for (int result = 0; result < job->results; result++)
-            job->target[state][result] = result == 0 ? job->states : (uint8_t)(looking + below(random, job->states - looking));
+            job->target[state][result] = result < end_results(job) ? after_end(job, random, state, looking, result)
+                                                                   : (uint8_t)(looking + below(random, job->states - looking));
     }
     for (uint8_t state = looking; state < job->states; state++)
         lamp_state(job, random, state, looking, may_end);
@@ -156,30 +195,30 @@ void right_job(struct job *job, struct random *random)
         job->marks[action] = action == PASS || one_in(random, 3);
     right_cells(job, random);
     for (int world = 0; world < job->worlds; world++)
-        for (int column = 0; column <= job->kinds; column++)
-            job->goal[world][column] = column == 0 || may_end || one_in(random, 2);
+        for (int column = 0; column < columns_of(job); column++)
+            job->goal[world][column] = is_end(job, column) || may_end || one_in(random, 2);
     right_plan(job, random, may_end);
 }
 
 /* ---- Members of the families ---- */
 
-static void random_right_job(struct job *job, struct random *random)
+static void random_right_job(struct job *job, struct random *random, bool several_ends)
 {
-    choose_numbers(job, random, 2, 2, 2);
+    choose_numbers(job, random, several_ends, 2, 2, 2);
     right_job(job, random);
 }
 
-static void random_counting_job(struct job *job, struct random *random)
+static void random_counting_job(struct job *job, struct random *random, bool several_ends)
 {
-    choose_numbers(job, random, 2, 2, 2);
+    choose_numbers(job, random, several_ends, 2, 2, 2);
     uint8_t some = (uint8_t)below(random, job->states);
     const uint8_t last[] = {job->states, NONE, some};
     counting_job(job, last[below(random, 3)]);
 }
 
-static void random_turning_job(struct job *job, struct random *random)
+static void random_turning_job(struct job *job, struct random *random, bool several_ends)
 {
-    choose_numbers(job, random, 2, 3, 2);
+    choose_numbers(job, random, several_ends, 2, 3, 2);
     if (job->states * job->worlds > 512 && !one_in(random, 8)) /* a check by walking takes long where both are large */
         job->worlds = (uint8_t)(512 / job->states);
     uint8_t movers = number(random, 1, job->states - 1);
@@ -202,14 +241,15 @@ static void change_plan(struct job *job, struct random *random)
 static void change_cell(struct job *job, struct random *random)
 {
     uint32_t action = below(random, job->actions), world = below(random, job->worlds);
-    uint32_t column = job->marks[action] + below(random, job->kinds + 1u - job->marks[action]);
+    uint32_t first = first_legal(job, action), column = first + below(random, columns_of(job) - first);
     job->cells[action][world][column] = one_in(random, 2) ? (struct cell){0, NONE} : legal_cell(job, random);
 }
 
 /* One change that leaves a job which the reader does not refuse. */
 static void change_job(struct job *job, struct random *random)
 {
-    uint32_t world = below(random, job->worlds), column = one_in(random, 2) ? 0 : below(random, job->kinds + 1u);
+    uint32_t world = below(random, job->worlds);
+    uint32_t column = one_in(random, 2) ? choose_end(job, random) : below(random, columns_of(job));
     switch (below(random, 8)) {
     case 0: job->first = (uint8_t)below(random, job->states + 1u); break;
     case 1: choose_starts(job, random); break;
@@ -220,20 +260,72 @@ static void change_job(struct job *job, struct random *random)
     }
 }
 
-void random_job(struct job *job, struct random *random)
+static void forbid_actions(struct job *job, uint8_t column)
+{
+    for (int action = 0; action < job->actions; action++)
+        for (int world = 0; world < job->worlds; world++)
+            job->cells[action][world][column] = (struct cell){0, NONE};
+}
+
+/* Plans that come to one end kind fail there, as no action is legal, or the goal never true. It is the highest one often. */
+static void spoil_end(struct job *job, struct random *random)
+{
+    uint8_t end = one_in(random, 2) ? job->last_end : choose_end(job, random);
+    if (one_in(random, 2))
+        forbid_actions(job, end);
+    else
+        for (int world = 0; world < job->worlds; world++)
+            job->goal[world][end] = 0;
+}
+
+/*
+ * At each end kind the goal is false in some worlds. So lines that lead to different worlds fail with different end kinds, and
+ * the first line that fails may have a higher one than the next. There is one start, since with many the empty line fails.
+ */
+static void spoil_ends(struct job *job, struct random *random)
+{
+    uint32_t rarity = 2 + below(random, 16);
+    memset(job->starts, 0, sizeof job->starts);
+    job->starts[below(random, job->worlds)] = 1;
+    for (int world = 0; world < job->worlds; world++)
+        for (int end = 0; end < ends_of(job); end++)
+            job->goal[world][end] = !one_in(random, rarity);
+}
+
+static void paper_job(struct job *job, struct random *random, bool several_ends)
+{
+    if (several_ends)
+        three_ends_job(job);
+    else
+        bench_line(job, below(random, BENCH_VARIANTS));
+}
+
+static void make_job(struct job *job, struct random *random, bool several_ends)
 {
     memset(job->gap, 0, sizeof job->gap);
     switch (below(random, 8)) {
     case 0:
-    case 1: wild_job(job, random); break;
-    case 2: random_counting_job(job, random); break;
-    case 3: random_turning_job(job, random); break;
-    case 4: bench_line(job, below(random, BENCH_VARIANTS)); break;
-    default: random_right_job(job, random); break;
+    case 1: wild_job(job, random, several_ends); break;
+    case 2: random_counting_job(job, random, several_ends); break;
+    case 3: random_turning_job(job, random, several_ends); break;
+    case 4: paper_job(job, random, several_ends); break;
+    default: random_right_job(job, random, several_ends); break;
     }
     choose_starts(job, random);
+    if (several_ends && one_in(random, 6))
+        spoil_end(job, random);
+    else if (several_ends && one_in(random, 6))
+        spoil_ends(job, random);
     if (one_in(random, 2))
         change_job(job, random);
     if (one_in(random, 4))
         choose_gaps(job, random);
 }
+
+void random_job(struct job *job, struct random *random)
+{
+    bool several_ends = !one_in(random, 3);
+    make_job(job, random, several_ends);
+}
+
+void one_end_job(struct job *job, struct random *random) { make_job(job, random, false); }

@@ -10,6 +10,17 @@
 void random_job(struct job *job, struct random *random);
 
 /*
+ * The same with one end kind. Each is what a job from the same random numbers was before there were several (document 02, (c)):
+ * nothing is drawn for its end. So answers that were given then can be asked for again (compare/old_answers.h).
+ */
+void one_end_job(struct job *job, struct random *random);
+
+/*
+ * In the jobs of the next two families ends of an odd kind are boxes, if there are results enough to tell them by: a box is told
+ * by a result of its own, and takes a step more than another end.
+ */
+
+/*
  * A job whose shortest failing line is long. Its numbers are set before: A, R and S are 2 or more. What the failure is says
  * `last`, to which only the longest way leads: S fails by the goal at a further lamp, none by the missing branch, another
  * state in its own way.
@@ -30,14 +41,17 @@ void turning_job(struct job *job, uint8_t movers, uint32_t turning);
  */
 void untold_job(struct job *job, bool moves_on);
 
-/* A right plan over random tables, with no start marked yet. Its numbers are set before: A, R and S are 2 or more. */
+/*
+ * A right plan over random tables, with no start marked yet. It tells end kinds apart as far as there are results for it. Its
+ * numbers are set before: A, R and S are 2 or more.
+ */
 void right_job(struct job *job, struct random *random);
 
-/* Every number at its largest. */
+/* Every number at its largest, with one end kind. */
 void largest_numbers(struct job *job);
 
-/* Jobs by what a check or a replay of them costs, in three sizes; full is the largest numbers. */
-enum size { SMALL, MIDDLE, FULL, SIZES };
+/* Jobs by what a check or a replay of them costs, in several sizes; from FULL on they are the largest numbers. */
+enum size { SMALL, MIDDLE, FULL, FULL_8_ENDS, FULL_15_ENDS, SIZES }; /* of one end kind before FULL_8_ENDS */
 enum sized_job {
     JOB_ACCEPTED,       /* accepted, with as many pairs as a plan of this size can reach, and short walks */
     JOB_LONG_FAILURE,   /* its shortest failing line is as long as that of a plan of this size can be */
@@ -47,7 +61,7 @@ enum sized_job {
     JOB_FIRST_LAMP,     /* fails at the first lamp of the first kind */
     JOB_CIRCLE,         /* fails there too, by circling through nearly all pairs */
     JOB_RANDOM,         /* accepted, over random tables */
-    JOB_RANDOM_FAILURE, /* the same with the goal false in one world */
+    JOB_RANDOM_FAILURE, /* the same with the goal false in one world, at the highest end kind */
     JOB_UNTOLD_STAYING, /* circles everywhere; a replay keeps every world and column */
     JOB_UNTOLD_MOVING,  /* fails on the empty line; a replay keeps nearly all worlds, in every column */
     SIZED_JOBS

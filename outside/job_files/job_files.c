@@ -1,5 +1,5 @@
 /*
- * The layout of a job file, bench line G, and the README's example.
+ * The layout of a job file, bench line G, a job of three end kinds, and the README's example.
  */
 #include "job_files.h"
 
@@ -18,7 +18,7 @@ static size_t put_cells(const struct job *job, uint8_t *to)
     size_t at = 0;
     for (int action = 0; action < job->actions; action++)
         for (int world = 0; world < job->worlds; world++)
-            for (int column = 0; column <= job->kinds; column++) {
+            for (int column = 0; column < columns_of(job); column++) {
                 to[at++] = job->cells[action][world][column].next;
                 to[at++] = job->cells[action][world][column].result;
             }
@@ -33,7 +33,7 @@ static size_t put_starts(const struct job *job, uint8_t *to)
 
 static size_t put_goal(const struct job *job, uint8_t *to)
 {
-    size_t columns = job->kinds + 1u;
+    size_t columns = columns_of(job);
     for (int world = 0; world < job->worlds; world++)
         memcpy(to + world * columns, job->goal[world], columns);
     return job->worlds * columns;
@@ -74,7 +74,8 @@ void set_pair(struct file *file, enum part part, uint16_t offset, uint16_t lengt
 
 void write_file(struct file *file, const struct job *job, struct random *random)
 {
-    const uint8_t numbers[PAIRS_AT] = {job->actions, job->worlds, job->kinds, job->results, job->states, job->first, 0, 0};
+    const uint8_t numbers[PAIRS_AT] = {job->actions, job->worlds, job->kinds,    job->results,
+                                       job->states,  job->first,  job->last_end, 0};
     size_t at = FIRST_PART_AT;
     memcpy(file->bytes, numbers, PAIRS_AT);
     for (enum part part = MARKS; part < PARTS; part++) {
@@ -97,6 +98,7 @@ void set_numbers(struct job *job, struct job_numbers numbers)
     job->kinds = numbers.kinds;
     job->results = numbers.results;
     job->states = numbers.states;
+    job->last_end = numbers.last_end;
 }
 
 void clear_tables(struct job *job)
@@ -108,7 +110,7 @@ void clear_tables(struct job *job)
     memset(job->target, NONE, sizeof job->target);
     for (int action = 0; action < MOST_ACTIONS; action++)
         for (int world = 0; world < MOST_WORLDS; world++)
-            for (int column = 0; column <= MOST_KINDS; column++)
+            for (int column = 0; column < MOST_COLUMNS; column++)
                 job->cells[action][world][column] = (struct cell){0, NONE};
 }
 
@@ -158,7 +160,7 @@ static void bench_tables(struct job *job)
     job->goal[CLEAR][0] = 1;
     for (int action = 0; action < job->actions; action++)
         for (uint8_t world = 0; world < job->worlds; world++)
-            for (uint8_t column = 0; column <= job->kinds; column++)
+            for (uint8_t column = 0; column < columns_of(job); column++)
                 job->cells[action][world][column] = bench_cell(action, world, column);
 }
 
@@ -187,6 +189,42 @@ void bench_line(struct job *job, enum bench_variant variant)
     case BENCH_ONE_LATER: job->gap[CELLS] = 1; break;
     default: break;
     }
+}
+
+/* ---- Three end kinds ---- */
+
+enum { THREE_LOOK, THREE_NEXT, THREE_SEAL, THREE_SET_FUSE };
+enum { UNTOUCHED, SEALED, FUSE_SET };
+enum { CAP, JOINT_BOX, FUSE_BOX, LAMP }; /* the end kinds, and what a look tells */
+
+static struct cell three_ends_cell(const struct job *job, int action, uint8_t world, uint8_t column)
+{
+    const struct cell not_legal = {0, NONE};
+    if (action == THREE_LOOK)
+        return (struct cell){world, is_end(job, column) ? column : LAMP};
+    if (action == THREE_NEXT)
+        return is_end(job, column) ? not_legal : (struct cell){world, 0};
+    if (action == THREE_SEAL)
+        return world == UNTOUCHED && column == JOINT_BOX ? (struct cell){SEALED, 0} : not_legal;
+    return world == UNTOUCHED && column == FUSE_BOX ? (struct cell){FUSE_SET, 0} : not_legal;
+}
+
+void three_ends_job(struct job *job)
+{
+    empty_job(job, (struct job_numbers){4, 3, 2, 4, 4, .last_end = FUSE_BOX});
+    job->marks[THREE_NEXT] = 1;
+    job->starts[UNTOUCHED] = 1;
+    job->goal[UNTOUCHED][CAP] = job->goal[SEALED][JOINT_BOX] = job->goal[FUSE_SET][FUSE_BOX] = 1;
+    for (int action = 0; action < job->actions; action++)
+        for (uint8_t world = 0; world < job->worlds; world++)
+            for (uint8_t column = 0; column < columns_of(job); column++)
+                job->cells[action][world][column] = three_ends_cell(job, action, world, column);
+    set_row(job, 0, THREE_LOOK, 4, 2);
+    job->target[0][FUSE_BOX] = 3;
+    job->target[0][LAMP] = 1;
+    set_row(job, 1, THREE_NEXT, 0, NONE);
+    set_row(job, 2, THREE_SEAL, 4, NONE);
+    set_row(job, 3, THREE_SET_FUSE, 4, NONE);
 }
 
 /* ---- The README's example ---- */

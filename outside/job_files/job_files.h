@@ -1,6 +1,6 @@
 /*
- * A job as tables (document 01, "The line and its tables"), its file (document 01, "Job file"), bench line G, and the README's
- * example.
+ * A job as tables (document 01, "The line and its tables", and document 02, (c)), its file (document 01, "Job file"), bench line
+ * G, a job of three end kinds, and the README's example.
  */
 #ifndef OUTSIDE_JOB_FILES_H
 #define OUTSIDE_JOB_FILES_H
@@ -9,7 +9,15 @@
 #include "random.h"
 
 /* The largest numbers that a job may have. */
-enum { MOST_ACTIONS = 16, MOST_WORLDS = 64, MOST_KINDS = 15, MOST_RESULTS = 8, MOST_STATES = 64 };
+enum {
+    MOST_ACTIONS = 16,
+    MOST_WORLDS = 64,
+    MOST_COLUMNS = 16, /* of E + C, so that there are 1 to 15 kinds of each */
+    MOST_KINDS = MOST_COLUMNS - 1,
+    MOST_ENDS = MOST_COLUMNS - 1,
+    MOST_RESULTS = 8,
+    MOST_STATES = 64
+};
 
 /* As a cell's result: the action is not legal. As a plan's target: there is no branch. */
 enum { NONE = 255 };
@@ -20,21 +28,30 @@ struct cell {
     uint8_t next, result;
 };
 
-/* A, W, C, R and S. */
+/* A, W, C, R, S and E - 1, which is 0 in a job of one end kind. */
 struct job_numbers {
-    uint8_t actions, worlds, kinds, results, states;
+    uint8_t actions, worlds, kinds, results, states, last_end;
 };
 
 struct job {
-    uint8_t actions, worlds, kinds, results, states, first;
+    uint8_t actions, worlds, kinds, results, states, first, last_end;
     uint8_t marks[MOST_ACTIONS];
-    struct cell cells[MOST_ACTIONS][MOST_WORLDS][MOST_KINDS + 1]; /* by action, world state and column */
+    struct cell cells[MOST_ACTIONS][MOST_WORLDS][MOST_COLUMNS]; /* by action, world state and column */
     uint8_t starts[MOST_WORLDS];
-    uint8_t goal[MOST_WORLDS][MOST_KINDS + 1];
+    uint8_t goal[MOST_WORLDS][MOST_COLUMNS];
     uint8_t action[MOST_STATES];
     uint8_t target[MOST_STATES][MOST_RESULTS];
     uint16_t gap[PARTS + 1]; /* bytes that mean nothing: before each part, and after the last */
 };
+
+/* E, and E + C. Columns are the end kinds, and after them the lamp kinds. */
+static inline uint8_t ends_of(const struct job *job) { return job->last_end + 1; }
+static inline uint8_t columns_of(const struct job *job) { return ends_of(job) + job->kinds; }
+static inline bool is_end(const struct job *job, uint32_t column) { return column <= job->last_end; }
+static inline uint8_t lamp_column(const struct job *job, uint32_t kind) { return (uint8_t)(job->last_end + kind); }
+
+/* The first column in which the reader lets the action be legal. */
+static inline uint8_t first_legal(const struct job *job, uint32_t action) { return job->marks[action] ? ends_of(job) : 0; }
 
 /* There is room for one byte too many, since a file may be too large. */
 struct file {
@@ -74,6 +91,12 @@ enum bench_variant {
     BENCH_VARIANTS
 };
 void bench_line(struct job *job, enum bench_variant variant);
+
+/*
+ * A plan that deals with three kinds of line's end: a plain cap, a joint box, which is to be sealed, and a fuse box, whose fuse
+ * is to be set. It is samples/three_ends.job.
+ */
+void three_ends_job(struct job *job);
 
 /* The README's example: a plan that walks a line of one kind of lamp to its end. */
 void example_job(struct job *job);

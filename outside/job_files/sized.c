@@ -1,17 +1,19 @@
 /*
- * Jobs by what a check or a replay of them costs, in three sizes.
+ * Jobs by what a check or a replay of them costs, in several sizes.
  */
 #include "families.h"
 
 static const struct job_numbers numbers_of[SIZES] = {
-    [SMALL] = {4, 6, 3, 4, 8},
-    [MIDDLE] = {8, 24, 7, 8, 24},
-    [FULL] = {MOST_ACTIONS, MOST_WORLDS, MOST_KINDS, MOST_RESULTS, MOST_STATES},
+    [SMALL] = {4, 6, 3, 4, 8, .last_end = 0},
+    [MIDDLE] = {8, 24, 7, 8, 24, .last_end = 0},
+    [FULL] = {MOST_ACTIONS, MOST_WORLDS, MOST_KINDS, MOST_RESULTS, MOST_STATES, .last_end = 0},
+    [FULL_8_ENDS] = {MOST_ACTIONS, MOST_WORLDS, MOST_COLUMNS - 8, MOST_RESULTS, MOST_STATES, .last_end = 7},
+    [FULL_15_ENDS] = {MOST_ACTIONS, MOST_WORLDS, MOST_COLUMNS - 15, MOST_RESULTS, MOST_STATES, .last_end = 14},
 };
 
 void largest_numbers(struct job *job) { set_numbers(job, numbers_of[FULL]); }
 
-const char *const size_names[SIZES] = {"small", "middle", "max"};
+const char *const size_names[SIZES] = {"small", "middle", "max", "ends_8", "ends_15"};
 const char *const sized_job_names[SIZED_JOBS] = {
     "accepted", "long_failure", "walk", "work", "at_once", "first_lamp", "circle", "random", "random_failure",
     "untold_staying", "untold_moving",
@@ -20,7 +22,7 @@ const char *const sized_job_names[SIZED_JOBS] = {
 /* From seeds with which many pairs are reached, and the failure is not met at once. */
 static void random_tables(struct job *job, enum size size)
 {
-    const uint64_t seeds[SIZES] = {11, 5, 7};
+    const uint64_t seeds[SIZES] = {11, 5, 7, 7, 34};
     struct random random = {seeds[size]};
     right_job(job, &random);
     job->starts[0] = 1;
@@ -49,9 +51,9 @@ static void put_failure(struct job *job, enum sized_job which)
     const uint8_t last_digit = job->states - 2;
     switch (which) {
     case JOB_AT_ONCE: job->first = job->states - 1; break; /* it moves on, which is not legal where no lamp is */
-    case JOB_FIRST_LAMP: job->cells[job->action[job->first]][0][1] = (struct cell){0, NONE}; break;
+    case JOB_FIRST_LAMP: job->cells[job->action[job->first]][0][lamp_column(job, 1)] = (struct cell){0, NONE}; break;
     case JOB_CIRCLE: job->target[last_digit][1] = 0; break; /* the counter begins anew, and no lamp is passed */
-    case JOB_RANDOM_FAILURE: job->goal[job->worlds - 1][0] = 0; break;
+    case JOB_RANDOM_FAILURE: job->goal[job->worlds - 1][job->last_end] = 0; break;
     default: break;
     }
 }

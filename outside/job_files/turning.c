@@ -4,34 +4,45 @@
 #include "families.h"
 
 enum { TURN };                 /* the action of the states that are a digit; every other action moves on */
-enum { STAYS, WRAPS, PASSES }; /* its results 0, 1, and 2 to R-2; R-1 is the result at the line's end */
+enum { STAYS, WRAPS, PASSES }; /* its results 0, 1, and 2 on; R-1 is the result at the line's end, and R-2 that at a box */
 
-static struct cell turned(const struct job *job, uint32_t turning, uint8_t world, uint8_t column)
+static bool has_boxes(const struct job *job) { return job->last_end > 0 && job->results > PASSES + 1; }
+
+/* At a box the world becomes the highest, and with that it is an end like the others. */
+static struct cell turned_at_end(const struct job *job, uint8_t world, uint8_t end)
 {
-    int passing = job->results - 1 - PASSES;
-    if (column == 0)
-        return (struct cell){world, job->results - 1};
-    if (passing > 0 && !(turning >> column & 1))
-        return (struct cell){world, (uint8_t)(PASSES + (world + column) % passing)};
+    uint8_t last = job->results - 1, highest = job->worlds - 1;
+    bool box = has_boxes(job) && end % 2 == 1;
+    return box && world < highest ? (struct cell){highest, last - 1} : (struct cell){world, last};
+}
+
+static struct cell turned(const struct job *job, uint32_t turning, uint8_t world, uint8_t kind)
+{
+    int passing = job->results - 1 - PASSES - has_boxes(job);
+    if (passing > 0 && !(turning >> kind & 1))
+        return (struct cell){world, (uint8_t)(PASSES + (world + kind) % passing)};
     if (world + 1 < job->worlds)
         return (struct cell){world + 1, STAYS};
     return (struct cell){0, WRAPS};
 }
 
 /* Worlds and results are spread so that eight kinds of lamp lead from 64 worlds to each of the 512 pairs of world and result. */
-static struct cell passed(const struct job *job, uint8_t action, uint8_t world, uint8_t column)
+static struct cell passed(const struct job *job, uint8_t action, uint8_t world, uint8_t kind)
 {
-    uint8_t next = (uint8_t)((5 * world + column + action) % job->worlds);
-    return (struct cell){next, (uint8_t)((next + column) % job->results)};
+    uint8_t next = (uint8_t)((5 * world + kind + action) % job->worlds);
+    return (struct cell){next, (uint8_t)((next + kind) % job->results)};
 }
 
 static void turning_cells(struct job *job, uint32_t turning)
 {
     for (uint8_t action = 0; action < job->actions; action++)
         for (uint8_t world = 0; world < job->worlds; world++)
-            for (uint8_t column = job->marks[action]; column <= job->kinds; column++)
-                job->cells[action][world][column] =
-                    action == TURN ? turned(job, turning, world, column) : passed(job, action, world, column);
+            for (uint8_t kind = 1; kind <= job->kinds; kind++)
+                job->cells[action][world][lamp_column(job, kind)] =
+                    action == TURN ? turned(job, turning, world, kind) : passed(job, action, world, kind);
+    for (uint8_t world = 0; world < job->worlds; world++)
+        for (uint8_t end = 0; end < ends_of(job); end++)
+            job->cells[TURN][world][end] = turned_at_end(job, world, end);
 }
 
 static void digit_row(struct job *job, uint8_t state, uint8_t digits, uint8_t movers)
@@ -41,6 +52,8 @@ static void digit_row(struct job *job, uint8_t state, uint8_t digits, uint8_t mo
         job->target[state][result] = (uint8_t)(digits + (state + result) % movers);
     job->target[state][STAYS] = state;
     job->target[state][WRAPS] = state + 1; /* after the last digit comes the first state that moves on */
+    if (has_boxes(job))
+        job->target[state][job->results - 2] = state;
     job->target[state][job->results - 1] = job->states;
 }
 

@@ -35,7 +35,7 @@ void untold_job(struct job *job, bool moves_on)
     memset(job->marks, moves_on, sizeof job->marks);
     for (uint8_t action = 0; action < job->actions; action++)
         for (uint8_t world = 0; world < job->worlds; world++)
-            for (uint8_t column = moves_on; column <= job->kinds; column++)
+            for (uint8_t column = first_legal(job, action); column < columns_of(job); column++)
                 job->cells[action][world][column] = moves_on ? moved(job, &random) : stayed(job, action, world);
     untold_plan(job);
 }

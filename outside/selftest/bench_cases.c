@@ -12,22 +12,22 @@ static void expect_failed(const char *what, enum bench_variant variant, unsigned
                           uint32_t steps)
 {
     take_bench(variant);
-    expect(what, expect_as_brute(), failing(kind, 0, lamps));
+    expect(what, expect_as_brute(), failing(kind, 0, lamps, 0));
     expect(what, memcmp(lent.line, line, lamps) == 0, true);
-    expect_run(what, lent.line, lamps, steps, ending(kind, steps));
+    expect_run(what, lent.line, lamps, 0, steps, ending(kind, steps));
 }
 
 static void runs(void)
 {
     const uint8_t sound[] = {1}, faulty[] = {2}, both[] = {1, 2};
     take_bench(BENCH_G);
-    expect_run("G, empty line", sound, 0, UINT32_MAX, ending(NESSFLURRY_GOAL, 1));
-    expect_run("G, [1]", sound, 1, 4, ending(NESSFLURRY_GOAL, 4));
-    expect_run("G, [1], limit 3", sound, 1, 3, ending(NESSFLURRY_STOPPED, 3));
-    expect_run("G, [2]", faulty, 1, UINT32_MAX, ending(NESSFLURRY_GOAL, 5));
-    expect_run("G, [1,2]", both, 2, UINT32_MAX, ending(NESSFLURRY_GOAL, 8));
+    expect_run("G, empty line", sound, 0, 0, UINT32_MAX, ending(NESSFLURRY_GOAL, 1));
+    expect_run("G, [1]", sound, 1, 0, 4, ending(NESSFLURRY_GOAL, 4));
+    expect_run("G, [1], limit 3", sound, 1, 0, 3, ending(NESSFLURRY_STOPPED, 3));
+    expect_run("G, [2]", faulty, 1, 0, UINT32_MAX, ending(NESSFLURRY_GOAL, 5));
+    expect_run("G, [1,2]", both, 2, 0, UINT32_MAX, ending(NESSFLURRY_GOAL, 8));
     take_bench(BENCH_ENDS_AT_ONCE);
-    expect_run("first state 4, empty line", sound, 0, 0, ending(NESSFLURRY_GOAL, 0));
+    expect_run("first state 4, empty line", sound, 0, 0, 0, ending(NESSFLURRY_GOAL, 0));
 }
 
 static void checks(void)
@@ -53,7 +53,7 @@ static void expect_refused_with(const char *what, size_t place, uint8_t byte, un
 
 static void files(void)
 {
-    const uint16_t numbers[NESSFLURRY_HEAD_SIZE] = {4, 3, 2, 2, 4, 0, 28, 4, 32, 72, 104, 3, 107, 9, 116, 12};
+    const uint16_t numbers[NESSFLURRY_HEAD_SIZE] = {4, 3, 2, 2, 4, 0, 0, 28, 4, 32, 72, 104, 3, 107, 9, 116, 12};
     uint16_t head[NESSFLURRY_HEAD_SIZE];
     take_bench(BENCH_G);
     expect("size of G", file.size, 128);

@@ -37,10 +37,10 @@ static bool met_before(struct followed *now)
  * The execution of 001 has no counter: it goes on for ever exactly if a pair comes twice at one lamp, since whatever
  * follows the first coming follows the second too. 01, One run, says which steps are counted then: S·W at this lamp.
  */
-uint64_t brute_run(uint8_t start, const uint8_t *line, size_t lamps, bool reached[BRUTE_PAIRS])
+uint64_t brute_run(uint8_t start, const uint8_t *line, size_t lamps, uint8_t end, bool reached[BRUTE_PAIRS])
 {
     struct followed now;
-    now.at = begun(&job, start, line, lamps);
+    now.at = begun(&job, start, line, lamps, end);
     now.steps = 0;
     arrive(&now, reached);
     for (;;) {
@@ -60,8 +60,13 @@ uint64_t brute_run(uint8_t start, const uint8_t *line, size_t lamps, bool reache
     }
 }
 
-bool next_line(uint8_t line[], uint32_t lamps)
+bool next_line(uint8_t line[], uint32_t lamps, uint8_t *end)
 {
+    if (*end < job.last_end) {
+        (*end)++;
+        return true;
+    }
+    *end = 0;
     for (uint32_t lamp = lamps; lamp > 0; lamp--) {
         if (line[lamp - 1] < job.kinds) {
             line[lamp - 1]++;
@@ -72,16 +77,17 @@ bool next_line(uint8_t line[], uint32_t lamps)
     return false;
 }
 
-/* The lines of exactly this many lamps from one start: the failure of the first that fails, left in `line`, or Goal. */
-static unsigned try_lines(uint8_t start, uint32_t lamps, uint8_t line[], bool reached[BRUTE_PAIRS])
+/* The lines of exactly this many lamps from one start: the failure of the first that fails, left in `line` and `end`, or Goal. */
+static unsigned try_lines(uint8_t start, uint32_t lamps, uint8_t line[], uint8_t *end, bool reached[BRUTE_PAIRS])
 {
     memset(line, 1, lamps);
+    *end = 0;
     do {
-        const uint64_t run = brute_run(start, line, lamps, reached);
-        expect("each line's run", plain_run(file.bytes, file.size, start, line, lamps, UINT32_MAX), run);
+        const uint64_t run = brute_run(start, line, lamps, *end, reached);
+        expect("each line's run", plain_run(file.bytes, file.size, start, line, lamps, *end, UINT32_MAX), run);
         if (nessflurry_code_of(run) != NESSFLURRY_GOAL)
             return nessflurry_code_of(run);
-    } while (next_line(line, lamps));
+    } while (next_line(line, lamps, end));
     return NESSFLURRY_GOAL;
 }
 
@@ -112,17 +118,18 @@ static void expect_none_up_to(uint16_t longest, const bool reached[BRUTE_PAIRS])
 }
 
 /*
- * What the check owes: by lamp count, then start, then kinds, the first failing line, which is left in `line`; or the
- * number of pairs reached. The check up to each number of lamps before that line's owes none.
+ * What the check owes: by lamp count, then start, then kinds, then end kind, the first failing line, whose lamps are left in
+ * `line`; or the number of pairs reached. The check up to each number of lamps before that line's owes none.
  */
 static uint64_t brute_check(uint8_t line[NESSFLURRY_LINE_SIZE])
 {
     bool reached[BRUTE_PAIRS] = {false};
+    uint8_t end = 0;
     for (uint16_t lamps = 0; lamps <= most_lamps(); lamps++) {
         for (uint8_t start = 0; start < job.worlds; start++) {
-            const unsigned code = job.starts[start] == 1 ? try_lines(start, lamps, line, reached) : NESSFLURRY_GOAL;
+            const unsigned code = job.starts[start] == 1 ? try_lines(start, lamps, line, &end, reached) : NESSFLURRY_GOAL;
             if (code != NESSFLURRY_GOAL)
-                return failing(code, start, lamps);
+                return failing(code, start, lamps, end);
         }
         expect_none_up_to(lamps, reached);
     }

@@ -1,6 +1,6 @@
 /*
- * Every marked start and every line, each execution followed beside the log (02, (a)). The longest beginning that some
- * execution has in common with the log is what is possible of it, and the entry after that is the first impossible one.
+ * Every marked start and every line with every end kind, each execution followed beside the log (02, (a)). The longest beginning
+ * that some execution has in common with the log is what is possible of it, and the entry after that is the first impossible one.
  */
 #include "brute_replay.h"
 
@@ -25,13 +25,13 @@ static uint32_t entries_given(struct execution at, const struct log *log)
 /* The most entries that the lines of exactly this many lamps give from one start. */
 static uint32_t most_given(uint8_t start, uint32_t lamps, const struct log *log)
 {
-    uint8_t line[BRUTE_ENTRIES];
+    uint8_t line[BRUTE_ENTRIES], end = 0;
     uint32_t most = 0;
     memset(line, 1, sizeof line);
     do {
-        const uint32_t given = entries_given(begun(&job, start, line, lamps), log);
+        const uint32_t given = entries_given(begun(&job, start, line, lamps, end), log);
         most = given > most ? given : most;
-    } while (next_line(line, lamps));
+    } while (next_line(line, lamps, &end));
     return most;
 }
 

@@ -33,9 +33,9 @@ uint64_t ending(unsigned code, uint32_t count)
     return (uint64_t)code << 8 | (uint64_t)count << 32;
 }
 
-uint64_t failing(unsigned kind, unsigned start, uint32_t lamps)
+uint64_t failing(unsigned kind, unsigned start, uint32_t lamps, unsigned end)
 {
-    return (uint64_t)start << 16 | ending(kind, lamps);
+    return (uint64_t)start << 16 | (uint64_t)end << 24 | ending(kind, lamps);
 }
 
 uint64_t refused(unsigned refusal)
@@ -45,7 +45,7 @@ uint64_t refused(unsigned refusal)
 
 uint64_t cabinet(unsigned refusal, unsigned state, uint32_t lamps)
 {
-    return (refusal == 0 ? 0 : refused(refusal)) | failing(0, state, lamps);
+    return (refusal == 0 ? 0 : refused(refusal)) | (uint64_t)state << 16 | ending(0, lamps);
 }
 
 /* ---- The job at hand ---- */
@@ -65,9 +65,9 @@ void take_bench(enum bench_variant variant)
     write_job();
 }
 
-void expect_run(const char *what, const uint8_t *line, size_t lamps, uint32_t limit, uint64_t wanted)
+void expect_run(const char *what, const uint8_t *line, size_t lamps, uint8_t end, uint32_t limit, uint64_t wanted)
 {
-    expect(what, plain_run(file.bytes, file.size, 0, line, lamps, limit), wanted);
+    expect(what, plain_run(file.bytes, file.size, 0, line, lamps, end, limit), wanted);
 }
 
 /* ---- What is lent ---- */
@@ -164,7 +164,7 @@ void expect_refused_file(const char *what, unsigned refusal)
     expect(what, plain_read(file.bytes, file.size, head), refused(refusal));
     expect("the head of a refused file", kept(head, sizeof head), true);
     expect(what, plain_walk(file.bytes, file.size, 255, 255, 255), refused(refusal));
-    expect(what, plain_run(file.bytes, file.size, 255, line, 1, 0), refused(refusal));
+    expect(what, plain_run(file.bytes, file.size, 255, line, 1, 255, 0), refused(refusal));
     expect_refused_check(what, (struct sizes){0, 0, 0}, refusal);
     expect(what, plain_begin(file.bytes, file.size, 3), refused(refusal));
     expect(what, plain_action(file.bytes, file.size, 255, 3), refused(refusal));

@@ -13,6 +13,7 @@ void long_line_cases(void);
 void form_cases(void);
 void up_to_cases(void);
 void replay_cases(void);
+void end_kind_cases(void);
 
 /* Prints how many of its jobs were accepted, and how many failed in which way on how long a line. */
 void random_cases(void);
@@ -32,7 +33,7 @@ void expect(const char *what, uint64_t got, uint64_t wanted);
  * check; a refused call; a cabinet's state, which comes from a refused report if the refusal is not 0.
  */
 uint64_t ending(unsigned code, uint32_t count);
-uint64_t failing(unsigned kind, unsigned start, uint32_t lamps);
+uint64_t failing(unsigned kind, unsigned start, uint32_t lamps, unsigned end);
 uint64_t refused(unsigned refusal);
 uint64_t cabinet(unsigned refusal, unsigned state, uint32_t lamps);
 
@@ -52,7 +53,7 @@ void write_job(void);
 void take_bench(enum bench_variant variant);
 
 /* The run from start 0. */
-void expect_run(const char *what, const uint8_t *line, size_t lamps, uint32_t limit, uint64_t wanted);
+void expect_run(const char *what, const uint8_t *line, size_t lamps, uint8_t end, uint32_t limit, uint64_t wanted);
 
 /* The file is refused by every operation, with this number and without a changed byte. */
 void expect_refused_file(const char *what, unsigned refusal);

@@ -33,12 +33,14 @@ static uint64_t check_sized(enum sized_job which, enum size size)
 /* Where the answer can be seen from the job, it is demanded too. */
 static void sized_jobs(enum size size)
 {
-    expect("a failure on the empty line", check_sized(JOB_AT_ONCE, size), failing(NESSFLURRY_NOT_LEGAL, 0, 0));
-    expect("a failure at the first lamp", check_sized(JOB_FIRST_LAMP, size), failing(NESSFLURRY_NOT_LEGAL, 0, 1));
-    expect("a circle at the first lamp", check_sized(JOB_CIRCLE, size), failing(NESSFLURRY_CIRCLES, 0, 1));
-    expect("a circle at the line's end", check_sized(JOB_UNTOLD_STAYING, size), failing(NESSFLURRY_CIRCLES, 0, 0));
-    expect("moving on at the line's end", check_sized(JOB_UNTOLD_MOVING, size), failing(NESSFLURRY_NOT_LEGAL, 0, 0));
-    expect("a failure over random tables", nessflurry_code_of(check_sized(JOB_RANDOM_FAILURE, size)), NESSFLURRY_GOAL_FALSE);
+    expect("a failure on the empty line", check_sized(JOB_AT_ONCE, size), failing(NESSFLURRY_NOT_LEGAL, 0, 0, 0));
+    expect("a failure at the first lamp", check_sized(JOB_FIRST_LAMP, size), failing(NESSFLURRY_NOT_LEGAL, 0, 1, 0));
+    expect("a circle at the first lamp", check_sized(JOB_CIRCLE, size), failing(NESSFLURRY_CIRCLES, 0, 1, 0));
+    expect("a circle at the line's end", check_sized(JOB_UNTOLD_STAYING, size), failing(NESSFLURRY_CIRCLES, 0, 0, 0));
+    expect("moving on at the line's end", check_sized(JOB_UNTOLD_MOVING, size), failing(NESSFLURRY_NOT_LEGAL, 0, 0, 0));
+    const uint64_t random_failure = check_sized(JOB_RANDOM_FAILURE, size);
+    expect("a failure over random tables", nessflurry_code_of(random_failure), NESSFLURRY_GOAL_FALSE);
+    expect("its end kind", nessflurry_end_of(random_failure), job.last_end);
     expect("a long failing line", nessflurry_code_of(check_sized(JOB_LONG_FAILURE, size)), NESSFLURRY_GOAL_FALSE);
     const enum sized_job accepted[] = {JOB_ACCEPTED, JOB_WALK, JOB_WORK, JOB_RANDOM};
     for (size_t i = 0; i < sizeof accepted / sizeof *accepted; i++)

@@ -25,7 +25,8 @@ static void try_made_log(struct random *random)
 {
     uint8_t line[BRUTE_ENTRIES];
     const uint32_t lamps = below(random, BRUTE_ENTRIES + 1), most = below(random, BRUTE_ENTRIES - 1);
-    struct execution at = begun(&job, marked_start(&job, random), line, lamps);
+    const uint8_t start = marked_start(&job, random), end = choose_end(&job, random);
+    struct execution at = begun(&job, start, line, lamps, end);
     choose_kinds(&job, random, line, lamps);
     made.size = 0;
     add_steps(&made, &at, most);

@@ -7,15 +7,17 @@
 
 enum { RANDOM_JOBS = 20000, RUNS_PER_JOB = 3, LONGEST_RUN = 10, MOST_LIMIT = 40, SEED = 20111 };
 
-/* Checks by code and by the number of pairs or lamps, larger numbers together with the largest; runs by code. */
+/* Checks by code and by the number of pairs or lamps, larger numbers together with the largest; failures by end; runs by code. */
 enum { NUMBERS = 10 };
-static unsigned checks[5][NUMBERS], runs[6];
+static unsigned checks[5][NUMBERS], failures[MOST_ENDS], runs[6];
 
 static void count_check(uint64_t answer)
 {
     const unsigned code = nessflurry_code_of(answer);
     const uint32_t number = code == NESSFLURRY_ACCEPTED ? nessflurry_pairs_of(answer) : nessflurry_lamps_of(answer);
     checks[code][number < NUMBERS ? number : NUMBERS - 1]++;
+    if (code != NESSFLURRY_ACCEPTED)
+        failures[nessflurry_end_of(answer)]++;
 }
 
 static uint64_t limited(uint64_t answer, uint32_t limit)
@@ -24,12 +26,13 @@ static uint64_t limited(uint64_t answer, uint32_t limit)
 }
 
 /* The run as a chain of walks. */
-static uint64_t run_by_walks(uint8_t start, const uint8_t *line, uint32_t lamps)
+static uint64_t run_by_walks(uint8_t start, const uint8_t *line, uint32_t lamps, uint8_t line_end)
 {
     uint8_t state = job.first, world = start;
     uint32_t steps = 0;
     for (uint32_t passed = 0;; passed++) {
-        const uint64_t end = plain_walk(file.bytes, file.size, state, world, passed < lamps ? line[passed] : 0);
+        const uint8_t column = passed < lamps ? lamp_column(&job, line[passed]) : line_end;
+        const uint64_t end = plain_walk(file.bytes, file.size, state, world, column);
         steps += nessflurry_steps_of(end);
         if (nessflurry_code_of(end) != NESSFLURRY_ARRIVED)
             return ending(nessflurry_code_of(end), steps);
@@ -39,7 +42,7 @@ static uint64_t run_by_walks(uint8_t start, const uint8_t *line, uint32_t lamps)
 }
 
 /* A cabinet that is fed what the tables yield along the line is at the final state after the run's steps if the run is. */
-static void expect_cabinet_follows(uint8_t start, const uint8_t *line, uint16_t lamps, uint64_t run)
+static void expect_cabinet_follows(uint8_t start, const uint8_t *line, uint16_t lamps, uint8_t end, uint64_t run)
 {
     uint8_t world = start;
     uint64_t now = plain_begin(file.bytes, file.size, lamps);
@@ -47,7 +50,7 @@ static void expect_cabinet_follows(uint8_t start, const uint8_t *line, uint16_t 
         const uint8_t state = nessflurry_state_of(now);
         const uint16_t left = nessflurry_lamps_of(now);
         const uint8_t action = nessflurry_action_of(plain_action(file.bytes, file.size, state, left));
-        const struct cell cell = job.cells[action][world][left > 0 ? line[lamps - left] : 0];
+        const struct cell cell = job.cells[action][world][left > 0 ? lamp_column(&job, line[lamps - left]) : end];
         now = plain_report(file.bytes, file.size, state, left, cell.result);
         expect("a report along a run", nessflurry_code_of(now), NESSFLURRY_DONE);
         world = cell.next;
@@ -64,13 +67,14 @@ static void random_run(struct random *random)
     bool reached[BRUTE_PAIRS];
     const uint8_t start = marked_start(&job, random);
     const uint16_t lamps = (uint16_t)below(random, LONGEST_RUN + 1);
+    const uint8_t end = choose_end(&job, random);
     choose_kinds(&job, random, line, lamps);
     const uint32_t limit = below(random, MOST_LIMIT + 1);
-    const uint64_t run = brute_run(start, line, lamps, reached);
+    const uint64_t run = brute_run(start, line, lamps, end, reached);
     const uint64_t wanted = limited(run, limit);
-    expect("a run against its execution", plain_run(file.bytes, file.size, start, line, lamps, limit), wanted);
-    expect("a run against its walks", run_by_walks(start, line, lamps), run);
-    expect_cabinet_follows(start, line, lamps, run);
+    expect("a run against its execution", plain_run(file.bytes, file.size, start, line, lamps, end, limit), wanted);
+    expect("a run against its walks", run_by_walks(start, line, lamps, end), run);
+    expect_cabinet_follows(start, line, lamps, end, run);
     runs[nessflurry_code_of(wanted)]++;
 }
 
@@ -82,6 +86,7 @@ static void print_what_was_met(void)
     print_row("failure 2, by lamps 0 to 9+", checks[NESSFLURRY_NO_BRANCH], NUMBERS);
     print_row("failure 3, by lamps 0 to 9+", checks[NESSFLURRY_CIRCLES], NUMBERS);
     print_row("failure 4, by lamps 0 to 9+", checks[NESSFLURRY_GOAL_FALSE], NUMBERS);
+    print_row("failures, by end 0 to 14", failures, MOST_ENDS);
     print_row("runs: Goal, 1 to 4, Stopped", runs, 6);
 }
 

@@ -7,9 +7,9 @@
 /* Bench line G with one byte changed: place, byte, refusal. */
 static const uint8_t one_defect[][3] = {
     {0, 0, 2}, {0, 17, 2}, {1, 0, 2}, {1, 65, 2}, {2, 0, 2}, {2, 16, 2}, {3, 0, 2}, {3, 9, 2}, {4, 65, 2}, {5, 5, 2},
-    {6, 1, 2}, {7, 1, 2},
+    {6, 14, 2}, {6, 16, 2}, {6, 255, 2}, {7, 1, 2},
     {8, 27, 3}, {10, 5, 3}, {12, 31, 3}, {24, 0, 3}, {26, 13, 3}, {27, 255, 3},
-    {4, 3, 4}, {10, 3, 4}, {26, 0, 4}, {26, 11, 4},
+    {2, 1, 4}, {4, 3, 4}, {6, 1, 4}, {6, 13, 4}, {10, 3, 4}, {26, 0, 4}, {26, 11, 4},
     {28, 2, 5}, {31, 255, 5},
     {32, 3, 6}, {33, 2, 6}, {33, 254, 6}, {68, 1, 6}, {103, 8, 6},
     {69, 0, 7}, {81, 1, 7},
@@ -72,12 +72,14 @@ static void runs_and_walks(void)
     take_bench(BENCH_G);
     memset(long_line, 1, sizeof long_line);
     const uint8_t kind_0[] = {1, 0}, kind_3[] = {1, 3};
-    expect("start not marked", plain_run(file.bytes, file.size, 1, kind_0, 2, 0), refused(14));
-    expect("start not below W", plain_run(file.bytes, file.size, 3, kind_0, 1, 0), refused(14));
-    expect_run("kind 0", kind_0, 2, 0, refused(15));
-    expect_run("kind 3", kind_3, 2, 0, refused(15));
-    expect_run("65,536 lamps", long_line, 65536, 9, refused(15));
-    expect_run("65,535 lamps", long_line, 65535, UINT32_MAX, ending(NESSFLURRY_GOAL, 3 * 65535 + 1));
+    expect("start not marked", plain_run(file.bytes, file.size, 1, kind_0, 2, 1, 0), refused(14));
+    expect("start not below W", plain_run(file.bytes, file.size, 3, kind_0, 1, 0, 0), refused(14));
+    expect_run("kind 0", kind_0, 2, 0, 0, refused(15));
+    expect_run("kind 3", kind_3, 2, 0, 0, refused(15));
+    expect_run("end kind 1 of one", kind_0, 1, 1, 9, refused(15));
+    expect_run("end kind 255 of one", kind_0, 0, 255, 9, refused(15));
+    expect_run("65,536 lamps", long_line, 65536, 0, 9, refused(15));
+    expect_run("65,535 lamps", long_line, 65535, 0, UINT32_MAX, ending(NESSFLURRY_GOAL, 3 * 65535 + 1));
     expect("walk, world not below W", plain_walk(file.bytes, file.size, 5, 3, 3), refused(14));
     expect("walk, no such column", plain_walk(file.bytes, file.size, 5, 1, 3), refused(15));
     expect("walk, state above S", plain_walk(file.bytes, file.size, 5, 1, 2), refused(16));
@@ -117,10 +119,10 @@ static void buffers(void)
     expect_refused_check("64 pairs, list of 63", (struct sizes){1, 63, 1}, 13);
     expect_refused_check("64 pairs, no line, no word", (struct sizes){0, 64, 0}, 12);
     take_circling(13, 4);
-    expect("65 pairs, two words", check_with((struct sizes){53, 65, 2}), failing(NESSFLURRY_CIRCLES, 12, 0));
+    expect("65 pairs, two words", check_with((struct sizes){53, 65, 2}), failing(NESSFLURRY_CIRCLES, 12, 0, 0));
     expect_refused_check("65 pairs, one word", (struct sizes){53, 65, 1}, 13);
     take_circling(64, 64);
-    expect("4,160 pairs, 65 words", check_with((struct sizes){4097, 4160, 65}), failing(NESSFLURRY_CIRCLES, 63, 0));
+    expect("4,160 pairs, 65 words", check_with((struct sizes){4097, 4160, 65}), failing(NESSFLURRY_CIRCLES, 63, 0, 0));
     expect_refused_check("4,160 pairs, 64 words", (struct sizes){4097, 4160, 64}, 13);
     expect_refused_check("4,160 pairs, list of 4,159", (struct sizes){4097, 4159, 65}, 13);
     expect_refused_check("4,160 pairs, line of 4,096", (struct sizes){4096, 4160, 65}, 12);

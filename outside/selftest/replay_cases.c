@@ -1,6 +1,6 @@
 /*
- * Logs of bench line G, of its variants and of jobs made for the purpose, with what 02, (a), owes; short ones also against all
- * lines.
+ * Logs of bench line G, of its variants, of a job of three end kinds and of jobs made for the purpose, with what 02, (a), owes;
+ * short ones also against all lines.
  */
 #include "brute_replay.h"
 #include "cases.h"
@@ -99,17 +99,17 @@ static void same_lamp(void)
 /* ---- Worlds ---- */
 
 /* Action 0 tells the world and keeps it, in every column; the plan does nothing else, and branches on every result. */
-static void take_telling(uint8_t worlds, uint8_t kinds)
+static void take_telling(uint8_t worlds, uint8_t kinds, uint8_t ends)
 {
-    job = (struct job){.actions = 1, .worlds = worlds, .kinds = kinds, .results = 8, .states = 1};
+    job = (struct job){.actions = 1, .worlds = worlds, .kinds = kinds, .results = 8, .states = 1, .last_end = ends - 1};
     for (uint8_t world = 0; world < worlds; world++)
-        for (uint8_t column = 0; column <= kinds; column++)
+        for (uint8_t column = 0; column < columns_of(&job); column++)
             job.cells[0][world][column] = (struct cell){world, world % 8};
 }
 
 static void starts(void)
 {
-    take_telling(3, 1);
+    take_telling(3, 1, 1);
     job.starts[0] = job.starts[2] = 1;
     write_job();
     expect_possible("the lowest start", LOG(0, 0, 0, 0));
@@ -119,22 +119,31 @@ static void starts(void)
     expect_place("a world that there is not", 0, LOG(0, 3));
 }
 
-/* Only the highest world and kind give this result. */
-static void highest_world_and_kind(void)
+/* Only the highest world in this column gives result 7. */
+static void expect_told(uint8_t kinds, uint8_t ends, uint8_t told)
 {
-    take_telling(64, 15);
+    take_telling(64, kinds, ends);
     memset(job.starts, 1, sizeof job.starts);
     for (unsigned world = 0; world < 64; world++)
-        for (unsigned column = 0; column <= 15; column++)
-            job.cells[0][world][column].result = world == 63 && column == 15 ? 7 : 0;
+        for (unsigned column = 0; column < columns_of(&job); column++)
+            job.cells[0][world][column].result = world == 63 && column == told ? 7 : 0;
     write_job();
-    expect_possible("the highest world and kind", LOG(0, 7, 0, 7));
-    expect_possible("any other world or kind", LOG(0, 0, 0, 0));
-    expect_place("the highest world and kind, and then no more", 1, LOG(0, 7, 0, 0));
-    expect_place("the highest world and kind, and not before", 1, LOG(0, 0, 0, 7));
+    expect_possible("the highest world in a column", LOG(0, 7, 0, 7));
+    expect_possible("any other world or column", LOG(0, 0, 0, 0));
+    expect_place("the highest world in a column, and then no more", 1, LOG(0, 7, 0, 0));
+    expect_place("the highest world in a column, and not before", 1, LOG(0, 0, 0, 7));
     job.starts[63] = 0;
     write_job();
     expect_place("the highest world not marked", 0, LOG(0, 7));
+}
+
+/* At the lamp of the highest kind, and at each of several kinds of end. */
+static void highest_world_in_each_column(void)
+{
+    expect_told(15, 1, 15);
+    for (uint8_t ends = 1; ends <= MOST_ENDS; ends++)
+        for (uint8_t column = 0; column <= ends; column++)
+            expect_told(1, ends, column);
 }
 
 /* Action 0 passes a lamp, whose kind only the world tells afterwards; action 1 tells the world. The plan passes two lamps. */
@@ -155,6 +164,29 @@ static void told_afterwards(void)
     expect_possible("the second lamp was of kind 2", LOG(0, 0, 0, 0, 1, 1, 1, 1));
     expect_place("the second lamp was of both kinds", 3, LOG(0, 0, 0, 0, 1, 1, 1, 0));
     expect_place("a lamp passed with a result that is never had", 1, LOG(0, 0, 0, 1));
+}
+
+/* ---- Three end kinds: actions 0 look, 1 next, 2 seal, 3 set the fuse; a look tells 0 to 2 at an end, and 3 at a lamp ---- */
+
+static void end_kinds(void)
+{
+    three_ends_job(&job);
+    write_job();
+    expect_possible("a cap", LOG(0, 0));
+    expect_possible("a joint box", LOG(0, 1, 2, 0));
+    expect_possible("a fuse box", LOG(0, 2, 3, 0));
+    expect_possible("a joint box after a lamp", LOG(0, 3, 1, 0, 0, 1, 2, 0));
+    expect_possible("a fuse box after two lamps", LOG(0, 3, 1, 0, 0, 3, 1, 0, 0, 2, 3, 0));
+    expect_place("a fuse set in a joint box", 1, LOG(0, 1, 3, 0));
+    expect_place("a fuse box sealed", 1, LOG(0, 2, 2, 0));
+    expect_place("an entry after the end at a box", 2, LOG(0, 1, 2, 0, 0, 1));
+    expect_place("a lamp passed at a box", 1, LOG(0, 2, 1, 0));
+    memset(job.target[0], 0, 3);
+    write_job();
+    expect_possible("a box, looked at twice", LOG(0, 2, 0, 2));
+    expect_place("a joint box that becomes a fuse box", 1, LOG(0, 1, 0, 2));
+    expect_place("a fuse box that becomes a cap", 1, LOG(0, 2, 0, 0));
+    expect_place("a box that becomes a lamp, after a lamp", 3, LOG(0, 3, 1, 0, 0, 1, 0, 3));
 }
 
 /* ---- Long logs ---- */
@@ -185,7 +217,7 @@ static void long_line(void)
     static uint8_t line[MOST_ENTRIES / 3];
     take_bench(BENCH_G);
     memset(line, 1, sizeof line);
-    struct execution at = begun(&job, 0, line, sizeof line);
+    struct execution at = begun(&job, 0, line, sizeof line, 0);
     given.size = 0;
     add_steps(&given, &at, MOST_ENTRIES);
     expect("entries of a long line", entries_of(&given), MOST_ENTRIES);
@@ -238,8 +270,9 @@ void replay_cases(void)
     variant_logs();
     same_lamp();
     starts();
-    highest_world_and_kind();
+    highest_world_in_each_column();
     told_afterwards();
+    end_kinds();
     circling();
     long_line();
     log_sizes();

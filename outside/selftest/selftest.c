@@ -11,8 +11,9 @@ int main(void)
     form_cases();
     up_to_cases();
     replay_cases();
-    printf("bench line G, refusals, long lines, forms of the checks, checks up to some lamps, logs: %u answers compared, "
-           "%u differ\n",
+    end_kind_cases();
+    printf("bench line G, refusals, long lines, forms of the checks, checks up to some lamps, logs, end kinds: %u answers "
+           "compared, %u differ\n",
            compared, differing);
     random_cases();
     log_cases();

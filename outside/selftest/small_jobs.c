@@ -1,6 +1,8 @@
 /* Random jobs that are worth checking: right plans and nearly right ones among them. */
 #include "small_jobs.h"
 
+#include "job_files/families.h"
+
 static bool chance(struct random *random, unsigned percent)
 {
     return below(random, 100) < percent;
@@ -35,7 +37,7 @@ static unsigned random_result(const struct maker *maker, unsigned action, unsign
     const unsigned results = maker->job->results;
     if (results == 1 || !tidily(maker))
         return below(maker->random, results);
-    if (action == 0 && column == 0)
+    if (action == 0 && is_end(maker->job, column))
         return 0;
     return world + 1 == maker->job->worlds ? results - 1 : action == 0 ? 1 : below(maker->random, results - 1);
 }
@@ -50,7 +52,7 @@ static unsigned random_next(const struct maker *maker, unsigned action, unsigned
 
 static struct cell random_cell(const struct maker *maker, unsigned action, unsigned world, unsigned column)
 {
-    if (maker->job->marks[action] == 1 && column == 0)
+    if (column < first_legal(maker->job, action))
         return (struct cell){0, NONE};
     const uint8_t next = (uint8_t)random_next(maker, action, world);
     const uint8_t result = (uint8_t)random_result(maker, action, world, column);
@@ -63,12 +65,9 @@ static void make_tables(const struct maker *maker)
     for (unsigned action = 0; action < job->actions; action++) {
         job->marks[action] = tidily(maker) ? action != 0 : chance(maker->random, 50);
         for (unsigned world = 0; world < job->worlds; world++)
-            for (unsigned column = 0; column <= job->kinds; column++)
+            for (unsigned column = 0; column < columns_of(job); column++)
                 job->cells[action][world][column] = random_cell(maker, action, world, column);
     }
-    for (unsigned world = 0; world < job->worlds; world++)
-        job->starts[world] = chance(maker->random, 20);
-    job->starts[chance(maker->random, 70) ? 0 : below(maker->random, job->worlds)] = 1;
     memset(job->goal, 1, sizeof job->goal);
 }
 
@@ -97,12 +96,30 @@ static void make_plan(const struct maker *maker)
     }
 }
 
+/* A tidy job, and its plan. */
+static void make_tidy(struct job *job, struct random *random)
+{
+    const unsigned tidiness[] = {100, 100, 95, 70};
+    struct maker maker = {.job = job, .random = random};
+    maker.tidiness = tidiness[below(random, 4)];
+    maker.climb = 30 + below(random, 71);
+    make_tables(&maker);
+    make_plan(&maker);
+}
+
+static void choose_starts(struct job *job, struct random *random)
+{
+    for (unsigned world = 0; world < job->worlds; world++)
+        job->starts[world] = chance(random, 20);
+    job->starts[chance(random, 70) ? 0 : below(random, job->worlds)] = 1;
+}
+
 /* The goal false once, an action not legal once, or, if there is a plan at all, a branch missing or leading back. */
 static void put_defect(struct job *job, struct random *random)
 {
     const unsigned state = job->states == 0 ? 0 : below(random, job->states);
     const unsigned result = mostly_largest(random, job->results), action = below(random, job->actions);
-    const unsigned world = mostly_largest(random, job->worlds), column = below(random, job->kinds + 1u);
+    const unsigned world = mostly_largest(random, job->worlds), column = below(random, columns_of(job));
     switch (below(random, job->states == 0 ? 2 : 4)) {
     case 0: job->goal[world][column] = 0; break;
     case 1: job->cells[action][world][column] = (struct cell){0, NONE}; break;
@@ -111,10 +128,19 @@ static void put_defect(struct job *job, struct random *random)
     }
 }
 
+/* Many only where there is one lamp kind, and lines are few. */
+static uint8_t last_end(struct random *random, uint8_t kinds)
+{
+    if (chance(random, 40))
+        return 0;
+    return (uint8_t)(kinds == 1 && chance(random, 30) ? mostly_largest(random, MOST_ENDS) : below(random, 4));
+}
+
 /* Two kinds only where S·W is at most 9: the lines of up to S·W + 1 lamps are to be tried one by one. */
 static void choose_numbers(struct job *job, struct random *random)
 {
     job->kinds = chance(random, 70) ? 2 : 1;
+    job->last_end = last_end(random, job->kinds);
     job->worlds = 1 + mostly_largest(random, job->kinds == 2 ? 4 : 6);
     job->states = mostly_largest(random, job->kinds == 1 ? 5 : job->worlds == 4 ? 3 : 4);
     job->actions = 1 + mostly_largest(random, 3);
@@ -124,15 +150,15 @@ static void choose_numbers(struct job *job, struct random *random)
         job->gap[part] = (uint16_t)below(random, 3);
 }
 
+/* Plans of right_job are those that tell end kinds apart. */
 void small_job(struct job *job, struct random *random)
 {
-    const unsigned tidiness[] = {100, 100, 95, 70};
-    struct maker maker = {.job = job, .random = random};
-    maker.tidiness = tidiness[below(random, 4)];
-    maker.climb = 30 + below(random, 71);
     choose_numbers(job, random);
-    make_tables(&maker);
-    make_plan(&maker);
+    if (job->actions > 1 && job->results > 1 && job->states > 1 && chance(random, 30))
+        right_job(job, random);
+    else
+        make_tidy(job, random);
+    choose_starts(job, random);
     for (unsigned defects = below(random, 4); defects > 0; defects--)
         put_defect(job, random);
 }

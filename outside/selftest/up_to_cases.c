@@ -15,7 +15,7 @@ static void expect_failed(const char *what, uint16_t longest, uint64_t wanted, c
 /* The failure with this line: not before it is long enough, and from there on always. */
 static void expect_failed_from(const char *what, enum bench_variant variant, unsigned kind, const uint8_t *line, uint16_t lamps)
 {
-    const uint64_t wanted = failing(kind, 0, lamps);
+    const uint64_t wanted = failing(kind, 0, lamps, 0);
     take_bench(variant);
     for (uint16_t longest = 0; longest < lamps; longest++)
         expect_none(what, longest);
@@ -48,7 +48,7 @@ static void buffers(void)
     const struct sizes least = {16, 18, 1};
     take_bench(BENCH_FIVE_STATES);
     expect("no lamp, buffers of the least size", check_up_to_with(0, least), ending(NESSFLURRY_NONE_UP_TO, 0));
-    expect("two lamps, buffers of the least size", check_up_to_with(2, least), failing(NESSFLURRY_NO_BRANCH, 0, 2));
+    expect("two lamps, buffers of the least size", check_up_to_with(2, least), failing(NESSFLURRY_NO_BRANCH, 0, 2, 0));
     expect_refused_check("line buffer 15", (struct sizes){15, 18, 1}, 12);
     expect_refused_check("line buffer 15, no list, no word", (struct sizes){15, 0, 0}, 12);
     expect_refused_check("working list 17", (struct sizes){16, 17, 1}, 13);
@@ -71,10 +71,10 @@ static void without_states(void)
     const uint8_t goal[2][2] = {{1, 0}, {0, 1}}, lower[] = {1, 0}, both[] = {1, 1}, line[] = {1};
     take_final(goal, lower);
     expect_none("false at a lamp, no lamp", 0);
-    expect_failed("false at a lamp, one lamp", 1, failing(NESSFLURRY_GOAL_FALSE, 0, 1), line);
+    expect_failed("false at a lamp, one lamp", 1, failing(NESSFLURRY_GOAL_FALSE, 0, 1, 0), line);
     take_final(goal, both);
-    expect_failed("the higher start on the empty line, no lamp", 0, failing(NESSFLURRY_GOAL_FALSE, 1, 0), line);
-    expect_failed("the higher start on the empty line, one lamp", 1, failing(NESSFLURRY_GOAL_FALSE, 1, 0), line);
+    expect_failed("the higher start on the empty line, no lamp", 0, failing(NESSFLURRY_GOAL_FALSE, 1, 0, 0), line);
+    expect_failed("the higher start on the empty line, one lamp", 1, failing(NESSFLURRY_GOAL_FALSE, 1, 0, 0), line);
 }
 
 void up_to_cases(void)

@@ -6,10 +6,9 @@ use Prim.Native.Nat.{ℕ, _+_, _*_, _≤_}
 use native.Mathlib.Omega.{arith}
 use borrow.Author.Tests.{le-ltb}
 use Rattle.lamp_line.proofs.Products.{product-le}
-use lib.ListN.{length, take, drop, replicate, length-append, length-replicate}
+use lib.ListN.{length, drop, replicate, length-append, length-replicate}
 use lib.Seq.{sets-eq, take-at, drop-at}
 use Rattle.lamp_line.specs.Refusals.{Rule, _when_, refusal, orRefused, answerBy}
-use Rattle.lamp_line.specs.Tables.{lampLine}
 use Rattle.lamp_line.specs.Check.{accepted, failed}
 use Rattle.lamp_line.proofs.Answering.{refusal-is, by-rules-before}
 use Rattle.job_layout.specs.Layout.{head}
@@ -21,7 +20,7 @@ use Rattle.job_file.proofs.WellFormed.{sound}
 use Rattle.plan_check.specs.declared.CheckAnswer.{CheckAnswer}
 use Rattle.plan_check.specs.declared.CheckAnswer.the-variants as answer
 use Rattle.plan_check.specs.declared.Failure.{Failure}
-use Rattle.plan_check.specs.CheckAnswers.{AnsweredRight, Lent, CheckedBy, Checked}
+use Rattle.plan_check.specs.CheckAnswers.{failedLine, AnsweredRight, Lent, CheckedBy, Checked}
 use Rattle.answer_line.specs.AnswerLine.{refusedLine, verdictLine, PrintedBy, Printed, AnswerIn}
 use Rattle.answer_line.specs.inner.Writing.{Wrote}
 
@@ -92,14 +91,14 @@ module _ (s : List ℕ) (before after : Lent) (large : Large before) where
 
   -- After Failed, the line to be printed has the lamps that are in the buffer.
   pub failed-printed : (f : Failure) → Checked s (answer.Failed f) before after →
-      Printed s (verdictLine (failed (f .kind) (f .start) (lampLine (take (f .lamps) (after .line))))) × (f .lamps ≤ length (after .line))
+      Printed s (verdictLine (failed (f .kind) (f .start) (failedLine f (after .line)))) × (f .lamps ≤ length (after .line))
   unfolding AnsweredRight
   failed-printed f checked = by (refusal (fileRules s)) (by-file _ checked)
     where
       by : (o : Option ℕ) → CheckedBy answer.Refused (AnsweredRight (tablesOf s)) o (answer.Failed f) before after →
-          PrintedBy o (tablesOf s) (verdictLine (failed (f .kind) (f .start) (lampLine (take (f .lamps) (after .line)))))
+          PrintedBy o (tablesOf s) (verdictLine (failed (f .kind) (f .start) (failedLine f (after .line))))
           × (f .lamps ≤ length (after .line))
-      by none right = ((failed (f .kind) (f .start) (lampLine (take (f .lamps) (after .line))), right .right, refl), right .within)
+      by none right = ((failed (f .kind) (f .start) (failedLine f (after .line)), right .right, refl), right .within)
       by (some number) (e, same) = absurd (let z : _≡_ {A = ℕ} 0 1 = cc in omega arith)
 
   -- After Refused, the number is the file's refusal, and its line is to be printed.

@@ -86,6 +86,12 @@ pub wrote-number : {l l′ l″ : List ℕ} {at next next′ : ℕ} (n m : ℕ) 
 wrote-number n m ns e first second =
     let joined = wrote-then first second in rw (numbers-append (n ∷ []) ns, sym e) joined
 
+-- Writing numbers and then one more writes the list with it at its end.
+pub wrote-last : {l l′ l″ : List ℕ} {at next next′ : ℕ} (ns : List ℕ) (n m : ℕ) → m ≡ n →
+    Wrote l at (numbers ns) next l′ → Wrote l′ next (numbers (m ∷ [])) next′ l″ → Wrote l at (numbers (ns ++ (n ∷ []))) next′ l″
+wrote-last ns n m e first second =
+    let joined = wrote-then first second in rw (numbers-append ns (n ∷ []), sym e) joined
+
 -- A number takes at most eleven bytes, and the end of the line takes one.
 pub length-line : (word ns : List ℕ) → length (textLine word ns) ≤ length word + 11 * length ns + 1
 length-line word ns =

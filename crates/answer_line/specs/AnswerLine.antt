@@ -1,5 +1,6 @@
 -- The line that the program prints for a job file (01, "Bench line G", last paragraph), as ASCII bytes: `accepted` and the number of pairs;
--- `refused` and the number of the refusal; or `fails`, the failure kind, the start, the number of lamps and the kind of each lamp.
+-- `refused` and the number of the refusal; or `fails`, the failure kind, the start, the number of lamps, the kind of each lamp and last
+-- the kind of the line's end (02, (c)).
 use mathlib.Core.Path.{_≡_}
 use mathlib.Core.Bool.{cond}
 use mathlib.Core.Option.{Option, none, some}
@@ -51,7 +52,8 @@ refusedLine number = textLine refusedText (number ∷ [])
 -- The line for a verdict of the check.
 abbrev pub verdictLine : Verdict → List ℕ
 verdictLine (accepted count) = textLine acceptedText (count ∷ [])
-verdictLine (failed kind start line) = textLine failsText (kindNumber kind ∷ start .0 ∷ length (line .lamps) ∷ line .lamps)
+verdictLine (failed kind start line) =
+    textLine failsText (kindNumber kind ∷ start .0 ∷ length (line .lamps) ∷ (line .lamps ++ (line .end ∷ [])))
 
 -- The text is the line for the file's refusal, or else for a right verdict.
 abbrev pub PrintedBy : Option ℕ → Tables → List ℕ → Type 0

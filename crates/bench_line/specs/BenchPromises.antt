@@ -5,7 +5,7 @@ use Prim.Native.Nat.{ℕ}
 use Rattle.lamp_line.specs.declared.FailureKind.{FailureKind}
 use Rattle.lamp_line.specs.declared.FailureKind.the-variants.{NotLegal, NoBranch, Circles, GoalFalse}
 use Rattle.lamp_line.specs.declared.Ending.the-variants.{Goal, Failure}
-use Rattle.lamp_line.specs.Tables.{worldState, lampLine}
+use Rattle.lamp_line.specs.Tables.{worldState, lineOf}
 use Rattle.lamp_line.specs.Run.{Run, ran, within, stopped, run, limited}
 use Rattle.lamp_line.specs.Check.{Verdict, accepted, failed, Right}
 use Rattle.job_layout.specs.Layout.{head}
@@ -18,13 +18,13 @@ pub record Judged (s : List ℕ) (v : Verdict) : Type 0 where
   pub opened : Opened s (head s)
   pub right : Right (tablesOf s) v
 
--- The run of a file from world state 0 along these lamps.
+-- The run of a file from world state 0 along these lamps to the end kind 0, the only one that G has.
 abbrev pub runOn : List ℕ → List ℕ → Run
-runOn s lamps = run (tablesOf s) (worldState 0) (lampLine lamps)
+runOn s lamps = run (tablesOf s) (worldState 0) (lineOf 0 lamps)
 
--- The right verdict is this failure, from start 0 along these lamps, and the run there counts k steps.
+-- The right verdict is this failure, from start 0 along these lamps to the end kind 0, and the run there counts k steps.
 pub record FailsOn (s : List ℕ) (kind : FailureKind) (lamps : List ℕ) (k : ℕ) : Type 0 where
-  pub judged : Judged s (failed kind (worldState 0) (lampLine lamps))
+  pub judged : Judged s (failed kind (worldState 0) (lineOf 0 lamps))
   pub runs : runOn s lamps ≡ ran (Failure kind) k
 
 -- The starred cases, in 01's order.

@@ -5,6 +5,7 @@ use bench_line::bench_with;
 use cabinet::ActionAnswer;
 use cabinet::BeginAnswer;
 use cabinet::ReportAnswer;
+use case_jobs::three_ends;
 use case_printing::print_counted;
 use case_printing::print_number;
 use case_printing::print_refused;
@@ -133,6 +134,17 @@ fn order_of_refusals(g: &[u8]) {
     ask(g, state_of(5, 0));
 }
 
+// The results along the line [2] to a fuse box, in a job with three kinds of ends: the cabinet learns the end as it learns a lamp.
+fn to_a_fuse_box(file: &[u8]) {
+    let m = begin(file, 1);
+    let m = report(file, m, 3);
+    let m = report(file, m, 0);
+    let m = report(file, m, 2);
+    ask(file, m);
+    let m = report(file, m, 0);
+    ask(file, m);
+}
+
 // Calls with a file that is refused.
 fn refused_file(file: &[u8]) {
     begin(file, 2);
@@ -145,5 +157,6 @@ fn main() {
     bench_case(&g);
     along_a_line(&g);
     order_of_refusals(&g);
+    to_a_fuse_box(&three_ends());
     refused_file(&bench_with(32, 3));
 }

@@ -48,10 +48,11 @@ fn print_front(lamps: usize, buffer: &[u8]) {
     }
 }
 
-// A failure in the form that the program prints. Its line is at the front of the buffer.
-pub fn print_failure(kind: FailureKind, start: WorldState, lamps: usize, buffer: &[u8]) {
+// A failure in the form that the program prints. The lamps of its line are at the front of the buffer.
+pub fn print_failure(kind: FailureKind, start: WorldState, lamps: usize, buffer: &[u8], end: u8) {
     print_counted(b" fails", failure_number(kind) as u64);
     print_number(start.0 as u64);
     print_number(lamps as u64);
     print_front(lamps, buffer);
+    print_number(end as u64);
 }

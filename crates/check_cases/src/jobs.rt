@@ -59,3 +59,41 @@ pub fn one_lamp_only() -> [u8; 47]
         0, 0, 1, 1, 1, 0, 2, 1, 1, 2, 255,
     ]
 }
+
+// No program state but the final one, and two kinds of ends: the goal is false at the second.
+pub fn false_at_second_end() -> [u8; 39]
+    ensures { λ r. ⌜ 39 ≡ length r ⌝ }
+{
+    [
+        1, 1, 1, 1, 0, 0, 1, 0, 28, 0, 1, 0, 29, 0, 6, 0, 35, 0,
+        1, 0, 36, 0, 3, 0, 39, 0, 0, 0, 0, 0, 255, 0, 255, 0, 255, 1,
+        1, 0, 1,
+    ]
+}
+
+// No program state but the final one, two starts and two kinds of ends: the goal is false for start 0 at the second, for start 1 at the
+// first.
+pub fn ends_of_starts() -> [u8; 49]
+    ensures { λ r. ⌜ 49 ≡ length r ⌝ }
+{
+    [
+        1, 2, 1, 1, 0, 0, 1, 0, 28, 0, 1, 0, 29, 0, 12, 0, 41, 0,
+        2, 0, 43, 0, 6, 0, 49, 0, 0, 0, 0, 0, 255, 0, 255, 0, 255, 0,
+        255, 0, 255, 0, 255, 1, 1, 1, 0, 1, 0, 1, 1,
+    ]
+}
+
+// Peek and next, with a plan that goes to the end, and two kinds of ends: after kind 1 the goal is false at the second, after kind 2 at the
+// first.
+pub fn ends_of_kinds() -> [u8; 99]
+    ensures { λ r. ⌜ 99 ≡ length r ⌝ }
+{
+    [
+        2, 3, 2, 2, 2, 0, 1, 0, 28, 0, 2, 0, 30, 0, 48, 0, 78, 0,
+        3, 0, 81, 0, 12, 0, 93, 0, 6, 0, 0, 1, 0, 0, 0, 0, 0, 1,
+        0, 1, 1, 0, 1, 0, 1, 1, 1, 1, 2, 0, 2, 0, 2, 1, 2, 1,
+        0, 255, 0, 255, 1, 0, 2, 0, 0, 255, 0, 255, 1, 0, 1, 0, 0, 255,
+        0, 255, 2, 0, 2, 0, 1, 0, 0, 1, 1, 0, 0, 1, 0, 0, 0, 0,
+        1, 0, 0, 0, 2, 1, 1, 0, 255,
+    ]
+}

@@ -4,6 +4,9 @@ mod jobs;
 mod kept;
 mod short;
 
+use crate::jobs::ends_of_kinds;
+use crate::jobs::ends_of_starts;
+use crate::jobs::false_at_second_end;
 use crate::jobs::one_lamp_only;
 use crate::jobs::spoils_or_stops;
 use crate::jobs::stops_or_spoils;
@@ -17,6 +20,8 @@ use bench_line::bench;
 use bench_line::bench_with;
 use bench_line::five_states;
 use bench_line::shifted;
+use case_jobs::three_ends;
+use case_jobs::three_ends_with;
 use case_printing::print_counted;
 use case_printing::print_failure;
 use case_printing::print_name;
@@ -35,7 +40,7 @@ fn print_answer(answer: CheckAnswer, line: &[u8], list: &[u32], words: &[u64], c
         CheckAnswer::Failed(failure) => {
             let kind = failure.kind;
             let lamps = failure.lamps as usize;
-            print_failure(kind, failure.start, lamps, line);
+            print_failure(kind, failure.start, lamps, line, failure.end);
             print_kept(line_kept(line, lamps));
         }
         CheckAnswer::Refused(number) => {
@@ -188,6 +193,30 @@ fn small_jobs() {
     check_large(b"pairs with the final state count", &one_lamp_only());
 }
 
+// Lines that end in several ways. A failure at a lamp is told with the lowest kind of end. The kinds of lamps and the start are compared
+// before the kind of end.
+fn end_kinds() {
+    check_large(b"three kinds of ends", &three_ends());
+    check_large(b"no branch at the fuse box", &three_ends_with(173, 255));
+    check_large(b"the joint box not sealed", &three_ends_with(172, 4));
+    let mut both = three_ends_with(172, 4);
+    both[173] = 255;
+    check_large(b"both", &both);
+    check_large(b"no branch at a lamp", &three_ends_with(174, 255));
+    check_large(
+        b"final at once, goal false at the second end",
+        &false_at_second_end(),
+    );
+    check_large(
+        b"start 0 at the second end, start 1 at the first",
+        &ends_of_starts(),
+    );
+    check_large(
+        b"kind 1 at the second end, kind 2 at the first",
+        &ends_of_kinds(),
+    );
+}
+
 // A job of the largest numbers, from standard input. It has long walks from thousands of pairs: without a memory of fates they would
 // take 45 million steps.
 fn full_size() {
@@ -214,6 +243,7 @@ fn main() {
     file_first();
     no_states();
     small_jobs();
+    end_kinds();
     full_size();
     short_checks();
 }

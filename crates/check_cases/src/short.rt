@@ -1,6 +1,7 @@
 // The short check (02, (b)), with bounds around the length of the shortest failing line: prints the answers, and whether the bytes that
 // must be kept are kept.
 ghost use Prim.Native.Nat.{_≤_};
+use crate::jobs::ends_of_kinds;
 use crate::jobs::two_are_too_many;
 use crate::jobs::two_starts;
 use crate::kept::line_kept;
@@ -9,6 +10,8 @@ use crate::kept::print_kept;
 use bench_line::bench;
 use bench_line::bench_with;
 use bench_line::five_states;
+use case_jobs::three_ends;
+use case_jobs::three_ends_with;
 use case_printing::print_counted;
 use case_printing::print_failure;
 use case_printing::print_number;
@@ -28,7 +31,7 @@ fn print_answer(answer: ShortAnswer, line: &[u8], list: &[u32], words: &[u64], c
         ShortAnswer::Failed(failure) => {
             let kind = failure.kind;
             let lamps = failure.lamps as usize;
-            print_failure(kind, failure.start, lamps, line);
+            print_failure(kind, failure.start, lamps, line, failure.end);
             print_kept(line_kept(line, lamps));
         }
         ShortAnswer::Refused(number) => {
@@ -107,6 +110,15 @@ fn one_lamp_or_none() {
     check_large(b"the empty line of every start", &two_starts(), 0);
 }
 
+// With several kinds of ends the lines of up to a number of lamps are tried with each of them.
+fn end_kinds() {
+    check_large(b"three kinds of ends", &three_ends(), 65535);
+    check_large(b"no branch at the fuse box", &three_ends_with(173, 255), 0);
+    let job = ends_of_kinds();
+    check_large(b"kind 1 at the second end, kind 2 at the first", &job, 0);
+    check_large(b"kind 1 at the second end, kind 2 at the first", &job, 1);
+}
+
 // Checks a plan of bench line G's numbers, with buffers of the least sizes or smaller.
 fn check_sizes(name: &[u8], file: &[u8], longest: u16, lamps: usize, numbers: usize, count: usize)
     requires { ⌜ (lamps ≤ 13) × (numbers ≤ 15) × (count ≤ 1) ⌝ }
@@ -147,5 +159,6 @@ pub fn short_checks() {
     two_lamps();
     three_pairs();
     one_lamp_or_none();
+    end_kinds();
     sizes();
 }

@@ -1,5 +1,7 @@
-// The jobs that are made for the comparison. They are small and none is refused; about one in five is accepted.
+// The jobs that are made for the comparison. They are small and none is refused; about one in five is accepted. Those with even numbers
+// have one kind of end and two kinds of lamps, the others two kinds of ends and one kind of lamp.
 ghost use mathlib.Core.Path.{_≡_};
+ghost use Prim.Native.Nat.{_≤_};
 ghost use lib.ListN.{length};
 
 // One step of a linear congruential generator, with the halves of its number exchanged.
@@ -14,6 +16,13 @@ fn noise(job: u32, part: u32, at: u32) -> u32 {
     mixed(mixed(mixed((n % 4294967296) as u32)))
 }
 
+// The highest kind of end.
+fn ends_of(job: u32) -> u32
+    ensures { λ r. ⌜ r ≤ 1 ⌝ }
+{
+    job % 2
+}
+
 // A byte of the marks part: in seven of eight cases 1 for action 1 and 0 for another, else the reverse.
 fn mark_byte(job: u32, action: u32) -> u8 {
     if (action == 1) != (noise(job, 0, action) % 8 == 0) {
@@ -22,9 +31,9 @@ fn mark_byte(job: u32, action: u32) -> u8 {
     0
 }
 
-// Whether a cell is legal: not in one of 32 cases, and not in column 0 if its action moves on.
+// Whether a cell is legal: not in one of 32 cases, and not at an end if its action moves on.
 fn cell_legal(job: u32, cell: u32) -> bool {
-    if (cell % 3 == 0) & (mark_byte(job, cell / 12) == 1) {
+    if (cell % 3 <= ends_of(job)) & (mark_byte(job, cell / 12) == 1) {
         return false;
     }
     noise(job, 8, cell) % 32 != 0
@@ -36,7 +45,7 @@ fn cell_result(job: u32, cell: u32) -> u8 {
     if x % 8 == 0 {
         return (x / 8 % 2) as u8;
     }
-    if cell % 3 == 0 {
+    if cell % 3 <= ends_of(job) {
         return 0;
     }
     1
@@ -102,7 +111,7 @@ fn plan_byte(job: u32, at: u32) -> u8 {
     (x / 32 % 3) as u8
 }
 
-// A byte of the tables of a job with A 3, W 4, C 2, R 2, S 2: marks at 28, cells at 31, starts at 103, goal at 107, plan at 119.
+// A byte of the tables of a job with A 3, W 4, R 2, S 2 and three columns: marks at 28, cells at 31, starts at 103, goal at 107, plan at 119.
 fn table_byte(job: u32, place: u32) -> u8 {
     if place < 28 {
         return 0;
@@ -142,6 +151,8 @@ pub fn make_job(job: u32) -> [u8; 125]
     ensures { λ r. ⌜ 125 ≡ length r ⌝ }
 {
     let mut file = head();
+    file[2] = 2 - ends_of(job) as u8;
+    file[6] = ends_of(job) as u8;
     let mut i = 28;
     while i < 125 {
         file[i] = table_byte(job, i as u32);

@@ -62,12 +62,17 @@ fn judge_accepted(file: &[u8], found: FirstFailing, pairs: u32) -> u8 {
     ACCEPTED
 }
 
-// A failure is right if the plain search finds the same line, with the same start and the same failure.
-fn judge_line(found: FirstFailing, kind: u32, start: u8, line: &[u8], first: &[u8]) -> u8 {
-    let FirstFailing::Line(end, from, lamps) = found else {
+// A failure is right if the plain search finds the same line, with the same kind of end, the same start and the same failure.
+fn judge_line(found: FirstFailing, kind: u32, start: u8, line: &[u8], end: u8, first: &[u8]) -> u8 {
+    let FirstFailing::Line(number, from, lamps, last) = found else {
         return DIFFERENT;
     };
-    if (end == kind) & (from == start) & (lamps == line.len()) & is_front(line, first) {
+    if (number == kind)
+        & (from == start)
+        & (last == end)
+        & (lamps == line.len())
+        & is_front(line, first)
+    {
         return FAILED;
     }
     DIFFERENT
@@ -85,16 +90,17 @@ fn judge_failure(found: FirstFailing, failure: Failure, buffer: &[u8], first: &[
         failure_number(kind) as u32,
         failure.start.0,
         &buffer[..lamps],
+        failure.end,
         first,
     )
 }
 
 // A refusal is right if the first run of the plain search is refused with the same number.
 fn judge_refused(found: FirstFailing, number: u8) -> u8 {
-    let FirstFailing::Line(end, from, lamps) = found else {
+    let FirstFailing::Line(ending, from, lamps, end) = found else {
         return DIFFERENT;
     };
-    if end == 100 + number as u32 {
+    if ending == 100 + number as u32 {
         return REFUSED;
     }
     DIFFERENT
@@ -144,7 +150,13 @@ fn print_answer(answer: CheckAnswer, buffer: &[u8]) {
         CheckAnswer::Accepted(count) => print_counted(b" accepted", count as u64),
         CheckAnswer::Failed(failure) => {
             let kind = failure.kind;
-            print_failure(kind, failure.start, failure.lamps as usize, buffer);
+            print_failure(
+                kind,
+                failure.start,
+                failure.lamps as usize,
+                buffer,
+                failure.end,
+            );
         }
         CheckAnswer::Refused(number) => print_refused(number),
     }

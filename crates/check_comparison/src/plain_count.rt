@@ -1,5 +1,5 @@
 // The plain count of the pairs that a plan reaches on arriving at a lamp or at the line's end: it begins with the pairs of the marked
-// starts and walks from every pair at every kind of lamp until that reaches no new one.
+// starts and walks from every pair at every column until that reaches no new one.
 ghost use Prim.Native.Nat.{_<_, _≤_};
 use crate::shape::Shape;
 use crate::shape::shape_of;
@@ -25,9 +25,9 @@ fn reach(reached: &mut [u8; 4160], state: u8, world: u8) -> bool {
     true
 }
 
-// Marks the pair with which a walk at one lamp arrives at the next, and answers whether it is new.
-fn reach_after(file: &[u8], reached: &mut [u8; 4160], state: u8, world: u8, kind: u8) -> bool {
-    let walked = lamp_walk::walk_lamp(file, ProgramState(state), WorldState(world), kind);
+// Marks the pair with which a walk at one column arrives at the next, and answers whether it is new. At an end no walk arrives.
+fn reach_after(file: &[u8], reached: &mut [u8; 4160], state: u8, world: u8, column: u8) -> bool {
+    let walked = lamp_walk::walk_lamp(file, ProgramState(state), WorldState(world), column);
     match walked {
         WalkAnswer::Ended(ending, steps) => false,
         WalkAnswer::Arrived(next, then, steps) => reach(reached, next.0, then.0),
@@ -35,17 +35,17 @@ fn reach_after(file: &[u8], reached: &mut [u8; 4160], state: u8, world: u8, kind
     }
 }
 
-// Walks from a pair, if it is marked, at every kind of lamp.
-fn reach_from(file: &[u8], kinds: u8, reached: &mut [u8; 4160], state: u8, world: u8) -> bool {
+// Walks from a pair, if it is marked, at every column: there are at most 16.
+fn reach_from(file: &[u8], reached: &mut [u8; 4160], state: u8, world: u8) -> bool {
     let at = place(state, world);
     if reached[at] != 1 {
         return false;
     }
     let mut new = false;
-    let mut kind: u8 = 0;
-    while kind < kinds {
-        kind += 1;
-        new = reach_after(file, reached, state, world, kind) | new;
+    let mut column: u8 = 0;
+    while column < 16 {
+        new = reach_after(file, reached, state, world, column) | new;
+        column += 1;
     }
     new
 }
@@ -55,7 +55,7 @@ fn reach_from_state(file: &[u8], shape: Shape, reached: &mut [u8; 4160], state: 
     let mut new = false;
     let mut world: u8 = 0;
     while world < shape.worlds {
-        new = reach_from(file, shape.kinds, reached, state, world) | new;
+        new = reach_from(file, reached, state, world) | new;
         world += 1;
     }
     new
@@ -74,7 +74,7 @@ fn reach_on(file: &[u8], shape: Shape, reached: &mut [u8; 4160]) -> bool {
 
 // Whether a world state is marked as a start: the run does not refuse it.
 fn is_marked(file: &[u8], world: u8) -> bool {
-    let answer = line_run::run_line(file, WorldState(world), b"", 0);
+    let answer = line_run::run_line(file, WorldState(world), b"", 0, 0);
     match answer {
         RunAnswer::Ended(ending, steps) => true,
         RunAnswer::Stopped(limit) => true,

@@ -1,5 +1,5 @@
-// The plain search: it runs every line up to a length from every start, one after the other, and answers the first that fails.
-// Shorter lines come first, then lower starts, then lower kinds.
+// The plain search: it runs every line up to a length from every start with every kind of end, one after the other, and answers the
+// first that fails. Shorter lines come first, then lower starts, then lower kinds of lamps, then lower kinds of ends.
 use crate::shape::Shape;
 use crate::shape::shape_of;
 use lamp_line::Ending;
@@ -7,9 +7,9 @@ use lamp_line::WorldState;
 use lamp_line::failure_number;
 use line_run::RunAnswer;
 
-// The first line that fails: the number of its ending, its start and its number of lamps.
+// The first line that fails: the number of its ending, its start, its number of lamps and its kind of end.
 pub enum FirstFailing {
-    Line(u32, u8, usize),
+    Line(u32, u8, usize, u8),
     Nothing,
 }
 
@@ -37,8 +37,33 @@ fn run_number(answer: RunAnswer) -> u32 {
 }
 
 // The number of the ending of a line's run.
-fn run_end(file: &[u8], start: u8, line: &[u8]) -> u32 {
-    run_number(line_run::run_line(file, WorldState(start), line, 4294967295))
+fn run_end(file: &[u8], start: u8, line: &[u8], end: u8) -> u32 {
+    run_number(line_run::run_line(file, WorldState(start), line, end, 4294967295))
+}
+
+// A failing run of a line: the number of its ending, or 0 if none fails, and the line's kind of end.
+pub struct FailingRun {
+    pub number: u32,
+    pub end: u8,
+}
+
+// Runs a line with one kind of end after the other, and answers the first run that fails.
+fn failing_end(file: &[u8], ends: u8, start: u8, line: &[u8]) -> FailingRun {
+    let mut end: u8 = 0;
+    while end < ends {
+        let number = run_end(file, start, line, end);
+        if number != 0 {
+            return FailingRun {
+                number: number,
+                end: end,
+            };
+        }
+        end += 1;
+    }
+    FailingRun {
+        number: run_end(file, start, line, ends),
+        end: ends,
+    }
 }
 
 // Turns a line into the next one of the same length, as a counter counts; the last line becomes the first again.
@@ -67,28 +92,28 @@ fn lines_of(kinds: u8, lamps: usize) -> u32 {
 }
 
 // Runs every line of one length from one start, beginning with the given line, and stops at the first that fails. The failing line is
-// left in place, and the number of its ending is answered; 0 if none fails.
-fn failing_line(file: &[u8], kinds: u8, start: u8, line: &mut [u8]) -> u32 {
-    let lines = lines_of(kinds, line.len());
+// left in place.
+fn failing_line(file: &[u8], shape: Shape, start: u8, line: &mut [u8]) -> FailingRun {
+    let lines = lines_of(shape.kinds, line.len());
     let mut number: u32 = 0;
     while number < lines {
-        let end = run_end(file, start, line);
-        if end != 0 {
-            return end;
+        let run = failing_end(file, shape.ends, start, line);
+        if run.number != 0 {
+            return run;
         }
-        next_line(line, kinds);
+        next_line(line, shape.kinds);
         number += 1;
     }
-    0
+    FailingRun { number: 0, end: 0 }
 }
 
 // Runs every line of one length from each start.
 fn failing_start(file: &[u8], shape: Shape, line: &mut [u8]) -> FirstFailing {
     let mut start: u8 = 0;
     while start < shape.worlds {
-        let end = failing_line(file, shape.kinds, start, line);
-        if end != 0 {
-            return FirstFailing::Line(end, start, line.len());
+        let run = failing_line(file, shape, start, line);
+        if run.number != 0 {
+            return FirstFailing::Line(run.number, start, line.len(), run.end);
         }
         start += 1;
     }
@@ -101,7 +126,7 @@ pub fn first_failing(file: &[u8], buffer: &mut [u8]) -> FirstFailing {
     let mut lamps = 0;
     while lamps <= buffer.len() {
         let found = failing_start(file, shape, &mut buffer[..lamps]);
-        if let FirstFailing::Line(end, start, length) = found {
+        if let FirstFailing::Line(number, start, length, end) = found {
             return found;
         }
         lamps += 1;

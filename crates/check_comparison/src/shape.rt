@@ -1,21 +1,23 @@
 // The numbers of a job that the plain search and the plain count need.
 
-// How many world states, kinds of lamp and non-final program states a job has, and its first program state.
+// How many world states, kinds of lamp and non-final program states a job has, its first program state and its highest kind of end.
 pub struct Shape {
     pub worlds: u8,
     pub kinds: u8,
     pub states: u8,
     pub first: u8,
+    pub ends: u8,
 }
 
 // The numbers in the first bytes of a file. A file that is too short has 0 of everything.
 pub fn shape_of(file: &[u8]) -> Shape {
-    if file.len() < 6 {
+    if file.len() < 7 {
         return Shape {
             worlds: 0,
             kinds: 0,
             states: 0,
             first: 0,
+            ends: 0,
         };
     }
     Shape {
@@ -23,5 +25,6 @@ pub fn shape_of(file: &[u8]) -> Shape {
         kinds: file[2],
         states: file[4],
         first: file[5],
+        ends: file[6],
     }
 }

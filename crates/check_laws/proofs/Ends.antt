@@ -1,6 +1,5 @@
--- A pair at the ends of lines: what the test of all kinds of ends says, and its result where there is only one kind.
+-- A pair at the ends of lines: what the test of all kinds of ends says.
 use mathlib.Core.Path.{_≡_, refl}
-use mathlib.Core.Logic.{_≢_}
 use Prim.Native.Nat.{ℕ, zero, suc, _+_, _<_}
 use native.Mathlib.Decide.{decLt}
 use native.Mathlib.Omega.{arith}
@@ -54,22 +53,3 @@ module _ (t : Tables) where
   -- What the test of all kinds of ends says is true.
   pub ends-say : (x : ℕ) → EndsSay x (atEnds t x)
   ends-say x = ends-from (endKinds t) 0 x (omega arith) (λ e f l. absurd (omega arith))
-
-  -- ---- one kind of end
-
-  -- If a pair does not fail at column 0, it fails at no end.
-  pub ends-good : (x : ℕ) → ((kind : FailureKind) → fate t x 0 ≢ fails kind) → atEnds t x ≡ good
-  unfolding endKinds endsFrom
-  ends-good x none = go (fate t x 0) none
-    where
-      go :
-          (v : NodeFate) → ((kind : FailureKind) → v ≢ fails kind) →
-          elim v as (λ _. AtEnds) [ succeeds ↦ good | fails kind ↦ bad 0 kind | arrives y ↦ good ] ≡ good
-      go succeeds d = refl
-      go (fails kind) d = absurd (d kind refl)
-      go (arrives y) d = refl
-
-  -- If it fails at column 0, this is the lowest end at which it fails.
-  pub ends-bad : (x : ℕ) (kind : FailureKind) → fate t x 0 ≡ fails kind → atEnds t x ≡ bad 0 kind
-  unfolding endKinds endsFrom
-  ends-bad x kind e = rw (e, endsFrom)

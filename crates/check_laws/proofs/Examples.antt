@@ -1,29 +1,28 @@
 -- The answer of the check, computed on small tables as a test of the definitions. There are two world states and one kind of lamp;
--- passing a lamp changes from one world state to the other.
+-- passing a lamp changes from one world state to the other. `ends` is the highest kind of end.
 use mathlib.Core.Path.{_≡_, refl}
-use mathlib.Core.Bool.{Bool, true, cond}
+use mathlib.Core.Bool.{Bool, true, false, cond, _||_}
 use mathlib.Core.Option.{Option, none, some}
 use mathlib.Core.List.{List, [], _∷_}
 use Prim.Native.Nat.{ℕ, _-_}
-use lib.Dec.{eqb}
+use lib.Dec.{eqb, leb}
 use Rattle.plans.specs.Plan.{Action, Result}
 use Rattle.lamp_line.specs.declared.ProgramState.{ProgramState}
 use Rattle.lamp_line.specs.declared.WorldState.{WorldState}
 use Rattle.lamp_line.specs.declared.FailureKind.the-variants.{NotLegal, NoBranch, Circles, GoalFalse}
-use Rattle.lamp_line.specs.Tables.{Outcome, outcome, Tables, programState, worldState, endKinds, lampColumn}
+use Rattle.lamp_line.specs.Tables.{Outcome, outcome, Tables, programState, worldState, endKinds, lampColumn, lineOf}
 use Rattle.lamp_line.specs.Check.{accepted, failed}
 use Rattle.lamp_line.specs.Run.{act, walk, ownSteps}
 use Rattle.run_laws.specs.inner.Pairs.{pairNumber, pairOf}
-use Rattle.run_laws.specs.inner.Lines.{lineOf}
 use Rattle.check_laws.specs.inner.Fates.{fate, endsFrom}
 use Rattle.check_laws.specs.inner.Search.{met, tried, labelsFrom, placesFrom, verdictOf}
 
 -- Action 0 looks: its result is 0 at the line's end and 1 at a lamp. Action 1 passes a lamp.
-abbrev cells : Action → WorldState → ℕ → List Outcome
-cells a w column =
+abbrev cells : ℕ → Action → WorldState → ℕ → List Outcome
+cells ends a w column =
     cond (eqb a 0)
-    (outcome w (cond (eqb column 0) 0 1) ∷ [])
-    (cond (eqb column 0) [] (outcome (worldState (1 - w .0)) 0 ∷ []))
+    (outcome w (cond (leb column ends) 0 1) ∷ [])
+    (cond (leb column ends) [] (outcome (worldState (1 - w .0)) 0 ∷ []))
 
 -- State 0 looks: at the line's end it goes to state 2, which is final, and at a lamp to `seen`. State 1 passes a lamp.
 abbrev targets : Option ProgramState → ProgramState → Result → Option ProgramState
@@ -32,9 +31,10 @@ targets seen q r =
     (cond (eqb r 0) (some (programState 2)) seen)
     (cond (eqb r 0) (some (programState 0)) none)
 
--- The plan begins in state `first`, in world state 0. The goal is true at the line's end, in the world states of `goal`.
-abbrev small : ℕ → Option ProgramState → (ℕ → Bool) → Tables
-small first seen goal =
+-- The plan begins in state `first`, in world state 0. The goal is true at the line's end, in the world states and at the
+-- kinds of ends of `goal`.
+abbrev small : ℕ → ℕ → Option ProgramState → (ℕ → ℕ → Bool) → Tables
+small ends first seen goal =
     record {
       actions = 2;
       worlds = 2;
@@ -42,10 +42,11 @@ small first seen goal =
       results = 2;
       states = 2;
       first = programState first;
+      ends = ends;
       mark = λ a. a;
-      cell = cells;
+      cell = cells ends;
       start = λ w. eqb (w .0) 0;
-      goal = λ w column. cond (eqb column 0) (goal (w .0)) (eqb 0 1);
+      goal = λ w column. cond (leb column ends) (goal (w .0) column) false;
       action = λ q. q .0;
       target = targets seen;
     }
@@ -53,17 +54,34 @@ small first seen goal =
 -- The answers.
 pub record SmallChecks : Type 0 where
   -- The goal is true in both world states. State 0 is reached with each of them, so there are two pairs.
-  pub correct : verdictOf (small 0 (some (programState 1)) (λ w. true)) ≡ accepted 2
+  pub correct : verdictOf (small 0 0 (some (programState 1)) (λ w end. true)) ≡ accepted 2
   -- After one lamp, or any odd number of them, the goal is false.
-  pub odd-lamps : verdictOf (small 0 (some (programState 1)) (λ w. eqb w 0)) ≡ failed GoalFalse (worldState 0) (lineOf 0 (1 ∷ []))
+  pub odd-lamps : verdictOf (small 0 0 (some (programState 1)) (λ w end. eqb w 0)) ≡ failed GoalFalse (worldState 0) (lineOf 0 (1 ∷ []))
   -- State 0 looks at the lamp for ever.
-  pub circling : verdictOf (small 0 (some (programState 0)) (λ w. true)) ≡ failed Circles (worldState 0) (lineOf 0 (1 ∷ []))
+  pub circling : verdictOf (small 0 0 (some (programState 0)) (λ w end. true)) ≡ failed Circles (worldState 0) (lineOf 0 (1 ∷ []))
   -- State 0 has no branch for the result at a lamp.
-  pub no-branch : verdictOf (small 0 none (λ w. true)) ≡ failed NoBranch (worldState 0) (lineOf 0 (1 ∷ []))
+  pub no-branch : verdictOf (small 0 0 none (λ w end. true)) ≡ failed NoBranch (worldState 0) (lineOf 0 (1 ∷ []))
   -- The plan passes a lamp first, but the line may be empty.
-  pub not-legal : verdictOf (small 1 none (λ w. true)) ≡ failed NotLegal (worldState 0) (lineOf 0 [])
+  pub not-legal : verdictOf (small 0 1 none (λ w end. true)) ≡ failed NotLegal (worldState 0) (lineOf 0 [])
+  -- There are two kinds of ends, and the goal is false at the second.
+  pub second-end : verdictOf (small 1 0 (some (programState 1)) (λ w end. eqb end 0)) ≡ failed GoalFalse (worldState 0) (lineOf 1 [])
+  -- The goal is false at the second end after an odd number of lamps.
+  pub odd-second-end :
+      verdictOf (small 1 0 (some (programState 1)) (λ w end. eqb end 0 || eqb w 0)) ≡ failed GoalFalse (worldState 0) (lineOf 1 (1 ∷ []))
+  -- Where the failure is at a lamp, the lowest kind of end is named.
+  pub lowest-end : verdictOf (small 1 0 none (λ w end. true)) ≡ failed NoBranch (worldState 0) (lineOf 0 (1 ∷ []))
 
 -- Each holds by computation.
 pub small-checks : SmallChecks
 unfolding endKinds lampColumn act walk ownSteps pairNumber pairOf fate endsFrom met tried labelsFrom placesFrom verdictOf
-small-checks = record { correct = refl; odd-lamps = refl; circling = refl; no-branch = refl; not-legal = refl }
+small-checks =
+    record {
+      correct = refl;
+      odd-lamps = refl;
+      circling = refl;
+      no-branch = refl;
+      not-legal = refl;
+      second-end = refl;
+      odd-second-end = refl;
+      lowest-end = refl;
+    }

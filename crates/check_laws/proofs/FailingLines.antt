@@ -6,14 +6,13 @@ use native.Mathlib.Omega.{arith}
 use Rattle.lamp_line.specs.declared.WorldState.{WorldState}
 use Rattle.lamp_line.specs.declared.FailureKind.{FailureKind}
 use Rattle.lamp_line.specs.declared.Ending.the-variants.{Failure}
-use Rattle.lamp_line.specs.Tables.{Tables, Line, Fits, worldState, endKinds, lampColumn}
+use Rattle.lamp_line.specs.Tables.{Tables, Line, Fits, worldState, endKinds, lampColumn, lineOf}
 use Rattle.lamp_line.specs.inner.WellFormed.{WellFormed}
 use Rattle.lamp_line.specs.Endings.{kindNumber}
 use Rattle.lamp_line.specs.Check.{Fails}
 use Rattle.lamp_line.specs.Run.{Pair, pair, Walk, ended, arrived, Run, ran, lampWalk, along}
 use Rattle.lamp_line.specs.Tables.{Beginning}
 use Rattle.run_laws.specs.inner.Pairs.{InRange, pairNumber}
-use Rattle.run_laws.specs.inner.Lines.{lineOf}
 use Rattle.run_laws.proofs.Walks.{arrived-in-range, arrived-at-lamp}
 use Rattle.run_laws.proofs.Runs.{runAfter, along-ends, along-passes}
 use Rattle.search_laws.specs.inner.Graph.{FailsAlong, bad-end, bad-lamp, goes-on, FailsFrom}
@@ -46,18 +45,18 @@ module _ (t : Tables) (wf : WellFormed t) (end : ℕ) (is-end : end < endKinds t
           let lamp = arrived-at-lamp t wf (t .states * t .worlds) p p′ (lineOf end []) n is-end (sym e) in
           absurd (omega arith)
   run-fails kind (c ∷ lamps) p range k h =
-      go (λ p′ range′ (m, g). run-fails kind lamps p′ range′ m g) (lampWalk t p (lampColumn t c)) refl
+      go (λ p′ range′ (m, g). run-fails kind lamps p′ range′ m g) (lampWalk t p (lampColumn (t .ends) c)) refl
     where
       go :
           ((p′ : Pair) → InRange t p′ → AlongFails kind lamps p′ → FailsAlong (graph t) (number p′) lamps end (kindNumber kind)) →
-          (v : Walk) → lampWalk t p (lampColumn t c) ≡ v → FailsAlong (graph t) (number p) (c ∷ lamps) end (kindNumber kind)
+          (v : Walk) → lampWalk t p (lampColumn (t .ends) c) ≡ v → FailsAlong (graph t) (number p) (c ∷ lamps) end (kindNumber kind)
       go after (ended x n) e =
           let f = along-ends t end (c ∷ lamps) p x n e in
           let same : ended x n ≡ ended (Failure kind) n = cc in
-          bad-lamp (kind, fate-of-pair t p (lampColumn t c) range ∙ ap (fateOf (t .worlds)) (e ∙ same), refl)
+          bad-lamp (kind, fate-of-pair t p (lampColumn (t .ends) c) range ∙ ap (fateOf (t .worlds)) (e ∙ same), refl)
       go after (arrived p′ n) e =
-          goes-on (fate-of-pair t p (lampColumn t c) range ∙ ap (fateOf (t .worlds)) e)
-          (after p′ (arrived-in-range t wf (t .states * t .worlds) p p′ (lampColumn t c) n (sym e))
+          goes-on (fate-of-pair t p (lampColumn (t .ends) c) range ∙ ap (fateOf (t .worlds)) e)
+          (after p′ (arrived-in-range t wf (t .states * t .worlds) p p′ (lampColumn (t .ends) c) n (sym e))
           (later (along t end lamps p′) refl))
         where
           later : (r : Run) → along t end lamps p′ ≡ r → AlongFails kind lamps p′
@@ -74,21 +73,21 @@ module _ (t : Tables) (wf : WellFormed t) (end : ℕ) (is-end : end < endKinds t
       let (k, w) = fails-walk (t .worlds) kind (lampWalk t p end) (sym (fate-of-pair t p end range) ∙ (rw q at e)) in
       (kind, n, (k, along-ends t end [] p (Failure kind) k w))
   fails-run (bad-lamp {c = c} {l = lamps} (kind, e, n)) p q range =
-      let v = lampWalk t p (lampColumn t c) in
-      let (k, w) = fails-walk (t .worlds) kind v (sym (fate-of-pair t p (lampColumn t c) range) ∙ (rw q at e)) in
+      let v = lampWalk t p (lampColumn (t .ends) c) in
+      let (k, w) = fails-walk (t .worlds) kind v (sym (fate-of-pair t p (lampColumn (t .ends) c) range) ∙ (rw q at e)) in
       (kind, n, (k, along-ends t end (c ∷ lamps) p (Failure kind) k w))
   fails-run {f = f} (goes-on {c = c} {y = y} {l = lamps} e d) p q range =
       go (λ p′ m range′. fails-run d p′ m range′)
-      (arrives-walk (t .worlds) y (lampWalk t p (lampColumn t c)) (sym (fate-of-pair t p (lampColumn t c) range) ∙ (rw q at e)))
+      (arrives-walk (t .worlds) y (lampWalk t p (lampColumn (t .ends) c)) (sym (fate-of-pair t p (lampColumn (t .ends) c) range) ∙ (rw q at e)))
     where
-      earlier : (p′ : Pair) (n : ℕ) → lampWalk t p (lampColumn t c) ≡ arrived p′ n → FailsSo f lamps p′ → FailsSo f (c ∷ lamps) p
+      earlier : (p′ : Pair) (n : ℕ) → lampWalk t p (lampColumn (t .ends) c) ≡ arrived p′ n → FailsSo f lamps p′ → FailsSo f (c ∷ lamps) p
       earlier p′ n w (kind, is, (k, g)) = (kind, is, (n + k, along-passes t end c lamps p p′ n w ∙ ap (runAfter n) g))
 
       go :
           ((p′ : Pair) → y ≡ number p′ → InRange t p′ → FailsSo f lamps p′) →
-          (p′ : Pair) × (n : ℕ) × (lampWalk t p (lampColumn t c) ≡ arrived p′ n) × (y ≡ number p′) → FailsSo f (c ∷ lamps) p
+          (p′ : Pair) × (n : ℕ) × (lampWalk t p (lampColumn (t .ends) c) ≡ arrived p′ n) × (y ≡ number p′) → FailsSo f (c ∷ lamps) p
       go after (p′, n, w, m) =
-          earlier p′ n w (after p′ m (arrived-in-range t wf (t .states * t .worlds) p p′ (lampColumn t c) n (sym w)))
+          earlier p′ n w (after p′ m (arrived-in-range t wf (t .states * t .worlds) p p′ (lampColumn (t .ends) c) n (sym w)))
 
 module _ (t : Tables) (wf : WellFormed t) where
   -- A failing line fails in the graph.

@@ -11,9 +11,8 @@ use borrow.Author.Tests.{leb-true}
 use lib.Dec.{leb}
 use lib.ListN.{length, length-append}
 use Rattle.lamp_line.specs.declared.FailureKind.{FailureKind}
-use Rattle.lamp_line.specs.Tables.{Tables, worldState, lampColumn}
+use Rattle.lamp_line.specs.Tables.{Tables, worldState, lampColumn, lineOf}
 use Rattle.lamp_line.specs.Check.{Verdict, failed}
-use Rattle.run_laws.specs.inner.Lines.{lineOf}
 use Rattle.search_laws.specs.inner.Lists.{_▸_}
 use Rattle.search_laws.specs.inner.Entries.{Entry, node, path, grown}
 use Rattle.search_laws.proofs.Grown.{grown-length, grown-all, still-at}
@@ -59,7 +58,7 @@ module _ (t : Tables) where
 
       at : (h : ℕ) → Owes (IsTriedLine E h k) (GrownBy E h k) (tried t E h k)
       at zero = starts (t .start (worldState k))
-      at (suc h) = lamps h (fate t (node E h) (lampColumn t k))
+      at (suc h) = lamps h (fate t (node E h) (lampColumn (t .ends) k))
 
 -- ---- the places that are left
 

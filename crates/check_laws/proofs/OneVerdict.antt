@@ -1,23 +1,32 @@
 -- Any two right answers of the check are equal: a correct plan has no failing line, only one failing line comes first, its run has
 -- only one ending, and the number of reached pairs is unique.
 use mathlib.Core.Path.{_≡_, refl, sym, ap, ap₂, subst₂}
-use mathlib.Core.List.{_∷_}
+use mathlib.Core.List.{List, [], _∷_, _++_}
 use Prim.Native.Nat.{ℕ}
 use native.Mathlib.Omega.{arith}
-use lib.ListN.{length}
 use Rattle.lamp_line.specs.declared.WorldState.{WorldState}
 use Rattle.lamp_line.specs.declared.FailureKind.{FailureKind}
 use Rattle.lamp_line.specs.declared.Ending.the-variants.{Goal, Failure}
-use Rattle.lamp_line.specs.Tables.{Tables, Line, worldState, final, lampProblem, planOf}
+use Rattle.lamp_line.specs.Tables.{Tables, Line, worldState, final, lampProblem, planOf, lineOf}
 use Rattle.lamp_line.specs.inner.WellFormed.{WellFormed}
 use Rattle.lamp_line.specs.Endings.{Ends, Leads}
 use Rattle.plans.specs.Execution.{Correct}
 use Rattle.lamp_line.specs.Check.{situation, Fails, rank, Counterexample, Reached, Verdict, accepted, failed, Right}
-use Rattle.run_laws.specs.inner.Lines.{lineOf}
 use Rattle.search_laws.proofs.Lex.{≼-antisym}
-use Rattle.check_laws.proofs.TableGraph.{one-end-kind}
 use Rattle.check_laws.proofs.RunLeads.{leads-run}
 use Rattle.check_laws.proofs.Counting.{number-once}
+
+-- Lists that are equal with one number added at the end are equal, and so are the numbers.
+snoc-same : {m n : ℕ} (l l′ : List ℕ) → l ++ (m ∷ []) ≡ l′ ++ (n ∷ []) → (l ≡ l′) × (m ≡ n)
+snoc-same [] [] e = (refl, cc)
+snoc-same [] (b ∷ []) e = absurd (let z : _≡_ {A = ℕ} 0 1 = cc in omega arith)
+snoc-same [] (b ∷ c ∷ l′) e = absurd (let z : _≡_ {A = ℕ} 0 1 = cc in omega arith)
+snoc-same (a ∷ []) [] e = absurd (let z : _≡_ {A = ℕ} 0 1 = cc in omega arith)
+snoc-same (a ∷ c ∷ l) [] e = absurd (let z : _≡_ {A = ℕ} 0 1 = cc in omega arith)
+snoc-same {m} {n} (a ∷ l) (b ∷ l′) e =
+    let (same, last) = snoc-same {m = m} {n = n} l l′ (cc) in
+    let first : a ≡ b = cc in
+    (ap₂ (λ (i : ℕ) (k : List ℕ). i ∷ k) first same, last)
 
 module _ (t : Tables) (wf : WellFormed t) where
   -- A line whose execution leads to Goal does not fail.
@@ -54,11 +63,11 @@ module _ (t : Tables) (wf : WellFormed t) where
   unfolding rank
   one-counterexample kind kind′ start start′ line line′ c c′ =
       let same-rank =
-      ≼-antisym (length (line .lamps) ∷ start .0 ∷ line .lamps) (length (line′ .lamps) ∷ start′ .0 ∷ line′ .lamps)
+      ≼-antisym (rank t start line) (rank t start′ line′)
       (c .first kind′ start′ line′ (c′ .fails)) (c′ .first kind start line (c .fails)) in
       let same-number : start .0 ≡ start′ .0 = cc in
-      let same-lamps : line .lamps ≡ line′ .lamps = cc in
-      let same-end : line .end ≡ line′ .end = omega (arith, one-end-kind t, c .fails .beginning .fits .ended, c′ .fails .beginning .fits .ended) in
+      let same-kinds : line .lamps ++ (line .end ∷ []) ≡ line′ .lamps ++ (line′ .end ∷ []) = cc in
+      let (same-lamps, same-end) = snoc-same (line .lamps) (line′ .lamps) same-kinds in
       let same-start : start ≡ start′ = ap worldState same-number in
       let same-line : line ≡ line′ = ap₂ lineOf same-end same-lamps in
       let d′ = subst₂ (Fails t kind′) (sym same-start) (sym same-line) (c′ .fails) in

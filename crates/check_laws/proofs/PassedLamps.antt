@@ -13,7 +13,7 @@ use Rattle.plans.specs.Execution.{Label, actionOf, Step, T*, here, join, step}
 use Rattle.lamp_line.specs.declared.ProgramState.{ProgramState}
 use Rattle.lamp_line.specs.declared.WorldState.{WorldState}
 use Rattle.lamp_line.specs.declared.Ending.{Ending}
-use Rattle.lamp_line.specs.Tables.{Tables, Line, Situation, Kinds, movesOn, passed, endKinds}
+use Rattle.lamp_line.specs.Tables.{Tables, Line, Situation, Kinds, movesOn, passed, endKinds, lineOf}
 use Rattle.lamp_line.specs.inner.WellFormed.{WellFormed}
 use Rattle.lamp_line.specs.Tables.{lampColumn, lampTheory, planOf}
 use Rattle.lamp_line.specs.Check.{situation}
@@ -21,7 +21,6 @@ use Rattle.lamp_line.specs.Run.{Pair, pair, Walk, ended, arrived, lampWalk}
 use Rattle.plans.proofs.Executions.{LastStep, shared-beginning, same-length-same-execution, longest}
 use Rattle.run_laws.specs.inner.Pairs.{InRange, pairNumber}
 use Rattle.run_laws.proofs.Steps.{steps-determined, end-kept, step-passes}
-use Rattle.run_laws.specs.inner.Lines.{lineOf}
 use Rattle.run_laws.proofs.Actions.{ExecutionAt, ends-halted}
 use Rattle.run_laws.proofs.Walks.{WalkMeans, rests, lingers, Arrives, arrives, walk-means, arrived-in-range, arrived-at-lamp}
 use Rattle.run_laws.proofs.Circling.{lingers-passes-none}
@@ -151,12 +150,12 @@ module _ (t : Tables) (wf : WellFormed t) (end : ℕ) (is-end : end < endKinds t
           absurd (omega arith)
   passes-reached s (c ∷ lamps) p₀ pre range kinds r p ms b =
       go (λ p′ range′ r′ ns b′. passes-reached s lamps p′ (pre ▸ c) range′ (kinds .2) r′ p ns b′)
-      (lampWalk t p₀ (lampColumn t c)) refl (walk-means t (t .states * t .worlds) p₀ (lineOf end (c ∷ lamps)))
+      (lampWalk t p₀ (lampColumn (t .ends) c)) refl (walk-means t (t .states * t .worlds) p₀ (lineOf end (c ∷ lamps)))
     where
       go :
           ((p′ : Pair) → InRange t p′ → Reach (graph t) s (pre ▸ c) (number p′) → (ns : List Label) → Passes lamps p′ ns p →
           (pre′ : List ℕ) × Reach (graph t) s pre′ (number p)) →
-          (v : Walk) → lampWalk t p₀ (lampColumn t c) ≡ v → WalkMeans t (lineOf end (c ∷ lamps)) (t .states * t .worlds) p₀ v →
+          (v : Walk) → lampWalk t p₀ (lampColumn (t .ends) c) ≡ v → WalkMeans t (lineOf end (c ∷ lamps)) (t .states * t .worlds) p₀ v →
           (pre′ : List ℕ) × Reach (graph t) s pre′ (number p)
       go after (ended x k) e m = absurd (not-ended (c ∷ lamps) p₀ ms p b x k range m)
       go after (arrived p′ k) e (arrives a) = at (passes-later c lamps p₀ p p′ k ms b a)
@@ -164,9 +163,9 @@ module _ (t : Tables) (wf : WellFormed t) (end : ℕ) (is-end : end < endKinds t
           next : Reach (graph t) s (pre ▸ c) (number p′)
           next =
               past-lamp r (record { low = kinds .0; high = kinds .1 })
-              (fate-of-pair t p₀ (lampColumn t c) range ∙ ap (fateOf (t .worlds)) e)
+              (fate-of-pair t p₀ (lampColumn (t .ends) c) range ∙ ap (fateOf (t .worlds)) e)
 
           at : (p′ ≡ p) ⊎ ((ns : List Label) × Passes lamps p′ ns p) → (pre′ : List ℕ) × Reach (graph t) s pre′ (number p)
           at (inl same) = (pre ▸ c, subst (λ (q : Pair). Reach (graph t) s (pre ▸ c) (number q)) same next)
           at (inr (ns, b′)) =
-              after p′ (arrived-in-range t wf (t .states * t .worlds) p₀ p′ (lampColumn t c) k (sym e)) next ns b′
+              after p′ (arrived-in-range t wf (t .states * t .worlds) p₀ p′ (lampColumn (t .ends) c) k (sym e)) next ns b′

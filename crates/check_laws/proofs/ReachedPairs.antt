@@ -4,17 +4,16 @@ use mathlib.Core.Logic.{inl, inr}
 use mathlib.Core.Bool.{true}
 use mathlib.Core.List.{List, [], _∷_, _++_}
 use Prim.Native.Nat.{ℕ, _*_}
-use native.Mathlib.Omega.{arith}
 use lib.ListN.{length}
 use Rattle.plans.specs.Execution.{Label, here, join, step}
-use Rattle.lamp_line.specs.Tables.{Tables, Kinds, Situation, worldState, lampColumn, lampTheory, planOf}
+use Rattle.lamp_line.specs.Tables.{Tables, Kinds, Situation, worldState, lampColumn, lampTheory, planOf, lineOf}
 use Rattle.lamp_line.specs.inner.WellFormed.{WellFormed}
 use Rattle.lamp_line.specs.Check.{Arrival, Reached}
 use Rattle.lamp_line.specs.Run.{Pair, pair, Walk, arrived, lampWalk}
 use Rattle.plans.proofs.Executions.{last-step, same-length-same-execution}
 use Rattle.run_laws.specs.inner.Pairs.{InRange, pairNumber}
+use Rattle.run_laws.proofs.Columns.{some-end}
 use Rattle.run_laws.proofs.Steps.{steps-determined}
-use Rattle.run_laws.specs.inner.Lines.{lineOf}
 use Rattle.run_laws.proofs.Actions.{ExecutionAt}
 use Rattle.run_laws.proofs.Walks.{WalkMeans, Arrives, arrives, walk-means, arrived-in-range}
 use Rattle.search_laws.specs.inner.Lists.{_▸_}
@@ -23,7 +22,7 @@ use Rattle.search_laws.proofs.Graph.{snoc-append}
 use Rattle.search_laws.proofs.Shortness.{kinds-append}
 use Rattle.check_laws.specs.inner.Fates.{arrives as arrives-with, fate}
 use Rattle.check_laws.proofs.FateLaws.{fate-of-pair, arrives-walk}
-use Rattle.check_laws.proofs.TableGraph.{one-end-kind, graph, start-in-range}
+use Rattle.check_laws.proofs.TableGraph.{graph, start-in-range}
 use Rattle.check_laws.proofs.PassedLamps.{Passes, passes-reached}
 
 module _ (t : Tables) (wf : WellFormed t) where
@@ -84,7 +83,7 @@ module _ (t : Tables) (wf : WellFormed t) where
   )
 
   walk-arrives :
-      (p p′ : Pair) (c k : ℕ) (rest : List ℕ) → lampWalk t p (lampColumn t c) ≡ arrived p′ k →
+      (p p′ : Pair) (c k : ℕ) (rest : List ℕ) → lampWalk t p (lampColumn (t .ends) c) ≡ arrived p′ k →
       Arrives t p (lineOf 0 (c ∷ rest)) p′ k
   walk-arrives p p′ c k rest e =
       go (subst (λ (v : Walk). WalkMeans t (lineOf 0 (c ∷ rest)) (t .states * t .worlds) p v) e
@@ -94,26 +93,26 @@ module _ (t : Tables) (wf : WellFormed t) where
       go (arrives a) = a
 
   comes-on :
-      (s : ℕ) (pre : List ℕ) (x c y : ℕ) → ReachedBy s pre x → Kind (t .kinds) c → fate t x (lampColumn t c) ≡ arrives-with y →
+      (s : ℕ) (pre : List ℕ) (x c y : ℕ) → ReachedBy s pre x → Kind (t .kinds) c → fate t x (lampColumn (t .ends) c) ≡ arrives-with y →
       ReachedBy s (pre ▸ c) y
   comes-on s pre x c y came kind to =
-      go (arrives-walk (t .worlds) y (lampWalk t (came .at) (lampColumn t c))
-      (sym (fate-of-pair t (came .at) (lampColumn t c) (came .range)) ∙ (rw (came .is) at to)))
+      go (arrives-walk (t .worlds) y (lampWalk t (came .at) (lampColumn (t .ends) c))
+      (sym (fate-of-pair t (came .at) (lampColumn (t .ends) c) (came .range)) ∙ (rw (came .is) at to)))
     where
       past :
-          (p : Pair) (k : ℕ) → lampWalk t (came .at) (lampColumn t c) ≡ arrived p k →
+          (p : Pair) (k : ℕ) → lampWalk t (came .at) (lampColumn (t .ends) c) ≡ arrived p k →
           (rest : List ℕ) → (ls : List Label) × Arrival t ls ×
           ExecutionAt t (pair (t .first) (worldState s)) (lineOf 0 ((pre ▸ c) ++ rest)) ls p (lineOf 0 rest)
       past p k e rest =
           rw (snoc-append pre c rest) (past-one-more (came .past (c ∷ rest) .2) (walk-arrives (came .at) p c k rest e))
 
       go :
-          (p : Pair) × (k : ℕ) × (lampWalk t (came .at) (lampColumn t c) ≡ arrived p k) × (y ≡ number p) → ReachedBy s (pre ▸ c) y
+          (p : Pair) × (k : ℕ) × (lampWalk t (came .at) (lampColumn (t .ends) c) ≡ arrived p k) × (y ≡ number p) → ReachedBy s (pre ▸ c) y
       go (p, k, e, n) =
           record {
             at = p;
             is = n;
-            range = arrived-in-range t wf (t .states * t .worlds) (came .at) p (lampColumn t c) k (sym e);
+            range = arrived-in-range t wf (t .states * t .worlds) (came .at) p (lampColumn (t .ends) c) k (sym e);
             marked = came .marked;
             of-kinds = kinds-append (t .kinds) pre (c ∷ []) (came .of-kinds) (unfold Kinds in (kind .low, kind .high, tt));
             past = past p k e;
@@ -147,7 +146,7 @@ module _ (t : Tables) (wf : WellFormed t) where
             marked = came .marked;
             fits = record {
               of-kinds = kinds-append (t .kinds) pre [] (came .of-kinds) (unfold Kinds in tt);
-              ended = omega (arith, one-end-kind t);
+              ended = some-end t;
             };
           };
           labels = ls;

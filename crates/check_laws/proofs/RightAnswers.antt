@@ -9,15 +9,14 @@ use Rattle.plans.specs.Execution.{Label, T*, Correct}
 use Rattle.lamp_line.specs.declared.FailureKind.{FailureKind}
 use Rattle.lamp_line.specs.declared.Ending.the-variants.{Goal, Failure}
 use Rattle.lamp_line.specs.Lists.{_∈_}
-use Rattle.lamp_line.specs.Tables.{Tables, Situation, worldState, final, lampTheory, lampProblem, planOf}
+use Rattle.lamp_line.specs.Tables.{Tables, Situation, worldState, final, lampTheory, lampProblem, planOf, lineOf}
 use Rattle.lamp_line.specs.inner.WellFormed.{WellFormed}
 use Rattle.lamp_line.specs.Endings.{kindNumber, Ends, Leads}
 use Rattle.lamp_line.specs.Check.{rank, Counterexample, Reached, Accepts}
 use Rattle.lamp_line.specs.Run.{Pair, Run, ran, run}
 use Rattle.run_laws.specs.inner.Pairs.{pairNumber, pairOf}
 use Rattle.run_laws.proofs.Steps.{execution-in-range}
-use Rattle.run_laws.specs.inner.Lines.{lineOf}
-use Rattle.search_laws.proofs.Keys.{stem-is, key-stem-order}
+use Rattle.search_laws.proofs.Keys.{line-rank-is, key-line-order}
 use Rattle.search_laws.specs.inner.Graph.{FailsFrom}
 use Rattle.search_laws.proofs.Graph.{Least}
 use Rattle.search_laws.specs.inner.Entries.{Entry, entry, node}
@@ -40,8 +39,8 @@ module _ (t : Tables) (wf : WellFormed t) where
       record {
         fails = graph-fails t wf kind s e l (least .fails);
         first = λ kind′ start′ line′ d.
-            rw (stem-is s l, stem-is (start′ .0) (line′ .lamps)) at
-            (key-stem-order l (line′ .lamps) e (line′ .end) s (start′ .0) (kindNumber kind) (kindNumber kind′)
+            rw (line-rank-is s l e, line-rank-is (start′ .0) (line′ .lamps) (line′ .end)) at
+            (key-line-order l (line′ .lamps) e (line′ .end) s (start′ .0) (kindNumber kind) (kindNumber kind′)
             (least .least (start′ .0) (line′ .lamps) (line′ .end) (kindNumber kind′) (fails-in-graph t wf kind′ start′ line′ d)));
         short =
             least-short (graph t) (PairNumber t) (λ x. x) (t .states * t .worlds) (coded t wf) (start-numbered t wf)

@@ -110,7 +110,7 @@ module _ (E : List Entry) (h k : ℕ) (later : 1 ≤ h) where
   later-place-lamps = ap (λ (h : ℕ). lineLamps E h k) after-entry
 
   -- The entry h - 1 is tried with a lamp of this kind.
-  pub later-place-tried : (t : Tables) → tried t E h k ≡ atLamp t E (h - 1) k (fate t (node E (h - 1)) (lampColumn t k))
+  pub later-place-tried : (t : Tables) → tried t E h k ≡ atLamp t E (h - 1) k (fate t (node E (h - 1)) (lampColumn (t .ends) k))
   unfolding tried
   later-place-tried t = ap (λ (h : ℕ). tried t E h k) after-entry
 

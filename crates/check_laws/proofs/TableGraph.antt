@@ -1,5 +1,5 @@
 -- The graph of the tables: its nodes are the numbers of pairs, and the fates of the pairs give its edges and failures.
-use mathlib.Core.Path.{_≡_, refl, sym, ap, _∙_}
+use mathlib.Core.Path.{_≡_, sym, ap, _∙_}
 use mathlib.Core.Bool.{true}
 use Prim.Native.Nat.{ℕ, _+_, _*_, _<_}
 use native.Mathlib.Omega.{arith}
@@ -17,11 +17,6 @@ use Rattle.search_laws.proofs.Shortness.{Coded}
 use Rattle.check_laws.specs.inner.Fates.{fails, arrives, startNode, fate}
 use Rattle.check_laws.proofs.FateLaws.{number-bound, fate-of-pair, arrives-walk, arrived-not-final}
 
--- The line's end is a single column.
-pub one-end-kind : (t : Tables) → endKinds t ≡ 1
-unfolding endKinds
-one-end-kind t = refl
-
 module _ (t : Tables) where
   -- The pair fails at the column, and this is the number of its failure kind.
   abbrev pub FailsAt : ℕ → ℕ → ℕ → Type 0
@@ -34,8 +29,8 @@ module _ (t : Tables) where
         kinds = t .kinds;
         ends = endKinds t;
         Start = λ s x. (t .start (worldState s) ≡ true) × (x ≡ startNode t s);
-        To = λ x c y. fate t x (lampColumn t c) ≡ arrives y;
-        Bad = λ x c f. FailsAt x (lampColumn t c) f;
+        To = λ x c y. fate t x (lampColumn (t .ends) c) ≡ arrives y;
+        Bad = λ x c f. FailsAt x (lampColumn (t .ends) c) f;
         BadEnd = λ x e f. FailsAt x e f;
       }
 
@@ -62,23 +57,23 @@ module _ (t : Tables) where
               (wf .start-range (worldState s) m) (wf .start-range (worldState s′) m′) (sym e ∙ e′) in
               ap (λ (p : Pair). p .world .0) same;
           to-one = λ x c y y′ e e′. (cc);
-          bad-one = λ x c. fails-once x (lampColumn t c);
+          bad-one = λ x c. fails-once x (lampColumn (t .ends) c);
           bad-to = λ x c f y (kind, e, n) e′. let z : _≡_ {A = ℕ} 0 1 = cc in omega arith;
           end-one = λ x e. fails-once x e;
         }
 
     -- An edge leads from a pair of the tables that is not final to a pair of the tables.
     to-arrives :
-        (p : Pair) (c y : ℕ) → InRange t p → fate t (pairNumber (t .worlds) p) (lampColumn t c) ≡ arrives y →
+        (p : Pair) (c y : ℕ) → InRange t p → fate t (pairNumber (t .worlds) p) (lampColumn (t .ends) c) ≡ arrives y →
         (p .state .0 < t .states) × PairNumber y
     to-arrives p c y range to =
-        let v = lampWalk t p (lampColumn t c) in
-        let (p′, k, e, n) = arrives-walk (t .worlds) y v (sym (fate-of-pair t p (lampColumn t c) range) ∙ to) in (
-          arrived-not-final t (t .states * t .worlds) p p′ (lampColumn t c) k range e,
+        let v = lampWalk t p (lampColumn (t .ends) c) in
+        let (p′, k, e, n) = arrives-walk (t .worlds) y v (sym (fate-of-pair t p (lampColumn (t .ends) c) range) ∙ to) in (
+          arrived-not-final t (t .states * t .worlds) p p′ (lampColumn (t .ends) c) k range e,
           (
             p′,
             n,
-            arrived-in-range t wf (t .states * t .worlds) p p′ (lampColumn t c) k (sym e),
+            arrived-in-range t wf (t .states * t .worlds) p p′ (lampColumn (t .ends) c) k (sym e),
           ),
         )
 
@@ -91,8 +86,8 @@ module _ (t : Tables) where
     unfolding fate
     to-bound x c y to =
         let p = pairOf (t .worlds) x in
-        let (p′, k, e, n) = arrives-walk (t .worlds) y (lampWalk t p (lampColumn t c)) to in
-        rw n (number-bound t p′ (arrived-in-range t wf (t .states * t .worlds) p p′ (lampColumn t c) k (sym e)))
+        let (p′, k, e, n) = arrives-walk (t .worlds) y (lampWalk t p (lampColumn (t .ends) c)) to in
+        rw n (number-bound t p′ (arrived-in-range t wf (t .states * t .worlds) p p′ (lampColumn (t .ends) c) k (sym e)))
 
     -- The starts begin at numbers of pairs of the tables.
     pub start-numbered : (s x : ℕ) → graph .Start s x → PairNumber x

@@ -8,11 +8,11 @@ use Prim.Native.Nat.{ℕ, zero, suc, _+_, _≤_, _<_}
 use native.Mathlib.Omega.{arith}
 use lib.ListN.{length}
 use Rattle.lamp_line.specs.declared.FailureKind.{FailureKind}
-use Rattle.lamp_line.specs.Tables.{Tables, worldState, lampColumn}
+use Rattle.lamp_line.specs.Tables.{Tables, worldState, lampColumn, lineOf}
 use Rattle.lamp_line.specs.inner.WellFormed.{WellFormed}
 use Rattle.lamp_line.specs.Endings.{kindNumber}
 use Rattle.lamp_line.specs.Check.{Counterexample, Right}
-use Rattle.run_laws.specs.inner.Lines.{lineOf}
+use Rattle.run_laws.proofs.Columns.{some-end}
 use Rattle.search_laws.specs.inner.Lists.{_▸_}
 use Rattle.search_laws.specs.inner.Graph.{Kind}
 use Rattle.search_laws.specs.inner.Entries.{Entry, entry, node, start, path, grown, onward}
@@ -21,7 +21,7 @@ use Rattle.search_laws.proofs.Begin.{Begun, begin-skip, begin-add, begin-lowest
 use Rattle.check_laws.specs.inner.Fates.{NodeFate, succeeds, fails, arrives, AtEnds, good, bad, startNode, fate, atEnds}
 use Rattle.check_laws.specs.inner.Search.{met, visited, visit, atStart, atLamp, firstLabel, labels, tried}
 use Rattle.check_laws.proofs.SearchParts.{Owes}
-use Rattle.check_laws.proofs.TableGraph.{one-end-kind, graph, plain}
+use Rattle.check_laws.proofs.TableGraph.{graph, plain}
 use Rattle.check_laws.proofs.RightAnswers.{least-right}
 use Rattle.check_laws.proofs.MetPairs.{met-true, met-false}
 use Rattle.check_laws.proofs.Ends.{GoodAtEnds, BadAtEnd, EndsSay, ends-say}
@@ -88,14 +88,14 @@ module _ (t : Tables) where
     -- At a kind of lamp, the run from an entry ends with the goal true, or fails, or arrives with a pair, which is visited.
     lamp-right :
         (E : List Entry) (h k : ℕ) → At (graph t) E h k → Kind (t .kinds) k →
-        (v : NodeFate) → fate t (node E h) (lampColumn t k) ≡ v → Owes (Right t) (λ E′. At (graph t) E′ h (k + 1)) (atLamp t E h k v)
+        (v : NodeFate) → fate t (node E h) (lampColumn (t .ends) k) ≡ v → Owes (Right t) (λ E′. At (graph t) E′ h (k + 1)) (atLamp t E h k v)
     unfolding Right
     lamp-right E h k at kind succeeds e =
         turn-quiet (graph t) E h k at (λ f (x, g, n). let z : _≡_ {A = ℕ} 0 1 = cc in omega arith)
         (λ y g. absurd (let z : _≡_ {A = ℕ} 0 1 = cc in omega arith))
     lamp-right E h k at kind (fails x) e =
         least-right t wf x (start E h) 0 (path E h ▸ k)
-        (fails-lamp (graph t) E h k at (plain t wf) kind (omega (arith, one-end-kind t)) (kindNumber x) (x, e, refl))
+        (fails-lamp (graph t) E h k at (plain t wf) kind (some-end t) (kindNumber x) (x, e, refl))
     lamp-right E h k at kind (arrives y) e =
         visit-right (λ E′. At (graph t) E′ h (k + 1)) E (onward E h k y)
         (λ j l is.
@@ -114,4 +114,4 @@ module _ (t : Tables) where
     unfolding tried
     tried-right E zero s begun low high = start-right E s begun (t .start (worldState s)) refl
     tried-right E (suc h) k at low high =
-        lamp-right E h k at (record { low = low; high = omega arith }) (fate t (node E h) (lampColumn t k)) refl
+        lamp-right E h k at (record { low = low; high = omega arith }) (fate t (node E h) (lampColumn (t .ends) k)) refl

@@ -30,8 +30,7 @@ module _ (t : Tables) (wf : WellFormed t) (longest : ℕ) where
       Counterexample t kind start line → Fails t kind′ start′ line′ → length (line .lamps) ≤ length (line′ .lamps)
   unfolding rank
   shortest {kind} {kind′} {start} {start′} {line} {line′} c d =
-      first-number (length (line .lamps)) (length (line′ .lamps)) (start .0 ∷ line .lamps) (start′ .0 ∷ line′ .lamps)
-      (c .first kind′ start′ line′ d)
+      first-number (length (line .lamps)) (length (line′ .lamps)) _ _ (c .first kind′ start′ line′ d)
 
   -- A right verdict names no line of up to that many lamps exactly when none of them fails.
   pub beyond-exactly : (v : Verdict) → Right t v → Beyond longest v ↔ NoneUpTo t longest

@@ -1,9 +1,8 @@
 -- The fate of a pair is given by any stretch of more than S·W actions. If S·W actions do not decide it, the walk has lingered at
 -- the lamp for so long that it circles; so it still stays after any number of actions.
-use mathlib.Core.Path.{_≡_, refl, sym, ap, _∙_}
+use mathlib.Core.Path.{_≡_, refl, sym, ap, subst, _∙_}
 use mathlib.Core.Logic.{_≢_}
 use mathlib.Core.Bool.{Bool, true, false}
-use mathlib.Core.List.{[], _∷_}
 use Prim.Native.Nat.{ℕ, zero, suc, _+_, _-_, _*_, _<_}
 use native.Mathlib.Omega.{arith}
 use borrow.Author.Tests.{eqb-false}
@@ -13,13 +12,13 @@ use Rattle.plans.proofs.Executions.{halted-not-forever}
 use Rattle.lamp_line.specs.declared.FailureKind.the-variants.{Circles}
 use Rattle.lamp_line.specs.declared.Ending.{Ending}
 use Rattle.lamp_line.specs.declared.Ending.the-variants.{Failure}
-use Rattle.lamp_line.specs.Tables.{Tables, Line, final, lampColumn, lampTheory, planOf}
+use Rattle.lamp_line.specs.Tables.{Tables, Line, final, columns, column, lampTheory, planOf}
 use Rattle.lamp_line.specs.inner.WellFormed.{WellFormed}
 use Rattle.lamp_line.specs.Check.{situation}
 use Rattle.lamp_line.specs.Run.{Pair, Move, ends, stays, passes, Walk, ended, arrived, isFinal, judged, act, walk, lampWalk}
 use Rattle.run_laws.specs.inner.Pairs.{InRange}
-use Rattle.run_laws.proofs.Steps.{steps-determined}
-use Rattle.run_laws.specs.inner.Lines.{lineOf}
+use Rattle.run_laws.proofs.Steps.{steps-determined, step-passes}
+use Rattle.run_laws.proofs.Columns.{LineAt, line-at}
 use Rattle.run_laws.proofs.Actions.{act-final, ends-halted}
 use Rattle.run_laws.proofs.Walks.{walkAfter, walk-spent, walk-ends, walk-stays, walk-passes, walk-means}
 use Rattle.run_laws.proofs.Walks.{Lingers, not-ended, stays-on, WalkMeans, rests, lingers, arrives}
@@ -83,41 +82,41 @@ module _ (t : Tables) (c : ℕ) where
 
 -- ---- a walk that lingers for S·W actions
 
--- A line whose first lamp has the column c.
-abbrev lampAt : ℕ → Line
-lampAt c = lineOf 0 (c ∷ [])
+module _ (t : Tables) (wf : WellFormed t) (c : ℕ) (c< : c < columns (t .ends) (t .kinds)) (p : Pair) (range : InRange t p) where
+  -- A line at this column.
+  here : LineAt t c
+  here = line-at t c<
 
-module _ (t : Tables) (wf : WellFormed t) (c : ℕ) (p : Pair) (range : InRange t p) where
-  means : (n : ℕ) → WalkMeans t (lampAt c) n p (walk t n p c)
-  unfolding lampColumn
-  means n = walk-means t n p (lampAt c)
+  means : (n : ℕ) → WalkMeans t (here .line) n p (walk t n p c)
+  means n = subst (λ (d : ℕ). WalkMeans t (here .line) n p (walk t n p d)) (here .is-column) (walk-means t n p (here .line))
 
   module _ (long : Lingers t c (t .states * t .worlds) p) where
-    for-ever : Forever (lampTheory t) (planOf t) (p .state) (situation (p .world) (lampAt c))
-    unfolding lampColumn
-    for-ever = lingers-forever t wf (lampAt c) p range long
+    lingers-here : Lingers t (column t (here .line)) (t .states * t .worlds) p
+    lingers-here = rw (here .is-column) long
+
+    for-ever : Forever (lampTheory t) (planOf t) (p .state) (situation (p .world) (here .line))
+    for-ever = lingers-forever t wf (here .line) p range lingers-here
 
     never-ends : (n : ℕ) (x : Ending) → ¬ (stretch t c n p ≡ ends x)
-    unfolding lampColumn
     never-ends n x e = go (walk t n p c) (means n) (walk-far t c n p ∙ ap (stopped t c) e)
       where
-        go : (v : Walk) → WalkMeans t (lampAt c) n p v → uncounted v ≡ ended x 0 → ⊥
+        go : (v : Walk) → WalkMeans t (here .line) n p v → uncounted v ≡ ended x 0 → ⊥
         go (ended y k) (rests r) f =
             halted-not-forever (lampTheory t) (planOf t) (steps-determined t wf) (r .execution)
-            (ends-halted t wf y (r .last .state) (situation (r .last .world) (lampAt c)) (r .ends)) for-ever
+            (ends-halted t wf y (r .last .state) (situation (r .last .world) (here .line)) (r .ends)) for-ever
         go (ended y k) (lingers more) f =
-            let g = lingers-far t c more .1 in let z : _≡_ {A = ℕ} 0 1 = cc in omega arith
+            let g = lingers-far t c (rw (here .is-column) at more) .1 in let z : _≡_ {A = ℕ} 0 1 = cc in omega arith
         go (arrived p′ k) m f = let z : _≡_ {A = ℕ} 0 1 = cc in omega arith
 
     never-passes : (n : ℕ) (p′ : Pair) → ¬ (stretch t c n p ≡ passes p′)
-    unfolding lampColumn
     never-passes n p′ e = go (walk t n p c) (means n) (walk-far t c n p ∙ ap (stopped t c) e)
       where
-        go : (v : Walk) → WalkMeans t (lampAt c) n p v → uncounted v ≡ arrived p′ 0 → ⊥
+        go : (v : Walk) → WalkMeans t (here .line) n p v → uncounted v ≡ arrived p′ 0 → ⊥
         go (ended y k) m f = let z : _≡_ {A = ℕ} 0 1 = cc in omega arith
         go (arrived p″ k) (arrives a) f =
-            let kept = lingers-passes-none t wf (lampAt c) p range long _ _ _ (join (a .staying) (step (a .passing))) in
-            omega (arith, ap (λ (line : Line). length (line .lamps)) kept)
+            let kept = lingers-passes-none t wf (here .line) p range lingers-here _ _ _ (join (a .staying) (step (a .passing))) in
+            let fewer = step-passes t wf (a .passing) (a .moves-on) (here .fits .ended) in
+            omega (arith, fewer, ap (λ (line : Line). length (line .lamps)) kept)
 
     -- The walk stays, however many actions are made.
     still-stays : (n : ℕ) → settled (stretch t c n p) ≡ ended (Failure Circles) 0

@@ -7,7 +7,7 @@ use native.Mathlib.Omega.{arith}
 use Rattle.lamp_line.specs.declared.FailureKind.the-variants.{Circles}
 use Rattle.lamp_line.specs.declared.Ending.{Ending}
 use Rattle.lamp_line.specs.declared.Ending.the-variants.{Failure}
-use Rattle.lamp_line.specs.Tables.{Tables}
+use Rattle.lamp_line.specs.Tables.{Tables, columns}
 use Rattle.lamp_line.specs.inner.WellFormed.{WellFormed}
 use Rattle.lamp_line.specs.Run.{Pair, Move, ends, stays, passes, ended, arrived, lampWalk}
 use Rattle.run_laws.specs.inner.Pairs.{InRange}
@@ -16,7 +16,7 @@ use Rattle.fate_laws.specs.inner.Stretches.{next, stretch}
 use Rattle.fate_laws.proofs.Fates.{settled, stretch-fate}
 use Rattle.fate_laws.proofs.Stretches.{stretch-joined, stays-within}
 
-module _ (t : Tables) (wf : WellFormed t) (c : ℕ) where
+module _ (t : Tables) (wf : WellFormed t) (c : ℕ) (c< : c < columns (t .ends) (t .kinds)) where
   most : ℕ
   most = t .states * t .worlds
 
@@ -26,7 +26,7 @@ module _ (t : Tables) (wf : WellFormed t) (c : ℕ) where
       uncounted (lampWalk t p c) ≡ settled (next m (λ p′. stretch t c (suc most) p′))
   unfolding most
   fate-after n p m range e =
-      sym (stretch-fate t wf c p range (n + suc most) (omega arith)) ∙ ap settled (stretch-joined t c n (suc most) p m e)
+      sym (stretch-fate t wf c c< p range (n + suc most) (omega arith)) ∙ ap settled (stretch-joined t c n (suc most) p m e)
 
   -- If its actions end the run, this ending is its fate.
   pub ends-fate : (n : ℕ) (p : Pair) (x : Ending) → InRange t p → stretch t c n p ≡ ends x → uncounted (lampWalk t p c) ≡ ended x 0
@@ -41,7 +41,7 @@ module _ (t : Tables) (wf : WellFormed t) (c : ℕ) where
       (n : ℕ) (p p′ : Pair) → InRange t p → stretch t c n p ≡ stays p′ → uncounted (lampWalk t p c) ≡ uncounted (lampWalk t p′ c)
   unfolding most
   stays-fate n p p′ range e =
-      fate-after n p (stays p′) range e ∙ stretch-fate t wf c p′ (stays-within t wf c n p p′ range e) (suc most) (omega arith)
+      fate-after n p (stays p′) range e ∙ stretch-fate t wf c c< p′ (stays-within t wf c n p p′ range e) (suc most) (omega arith)
 
   -- If n actions lead back to the pair, so does every multiple of n actions.
   rounds : (n : ℕ) (p : Pair) → stretch t c n p ≡ stays p → (k : ℕ) → stretch t c (k * n) p ≡ stays p
@@ -59,5 +59,5 @@ module _ (t : Tables) (wf : WellFormed t) (c : ℕ) where
       let round : stretch t c n p′ ≡ stays p′ = sym (rw all at (stretch-joined t c i n p (stays p′) e)) ∙ f in
       let long : suc most * 1 ≤ suc most * n = mul-le-mul-left (suc most) (omega arith) in
       stays-fate i p p′ range e
-      ∙ sym (stretch-fate t wf c p′ (stays-within t wf c i p p′ range e) (suc most * n) (omega arith))
+      ∙ sym (stretch-fate t wf c c< p′ (stays-within t wf c i p p′ range e) (suc most * n) (omega arith))
       ∙ ap settled (rounds n p′ round (suc most))

@@ -6,7 +6,7 @@ use Prim.Native.Nat.{ℕ}
 use lib.ListN.{length}
 use Rattle.plans.specs.Execution.{Label, Correct}
 use Rattle.lamp_line.specs.declared.WorldState.{WorldState}
-use Rattle.lamp_line.specs.Tables.{Situation, lampLine, Beginning, lampProblem, final}
+use Rattle.lamp_line.specs.Tables.{Line, Situation, Beginning, lampProblem, final}
 use Rattle.lamp_line.specs.Executions.{Execution}
 use Rattle.lamp_line.specs.Check.{situation}
 use Rattle.job_layout.specs.Layout.{head}
@@ -22,14 +22,14 @@ use Rattle.guarantee.proofs.CheckMeans.{accepted-means}
 
 -- A line on which the execution reaches the goal.
 pub goal-served :
-    (s : List ℕ) → Opened s (head s) → (start : WorldState) (lamps : List ℕ) → Beginning (tablesOf s) start (lampLine lamps) →
-    (ls : List Label) (last : Situation) → Execution (tablesOf s) start (lampLine lamps) ls (final (tablesOf s)) last →
-    lampProblem (tablesOf s) .Goal last → Served s start lamps
-goal-served s opened start lamps beginning ls last execution goal =
+    (s : List ℕ) → Opened s (head s) → (start : WorldState) (line : Line) → Beginning (tablesOf s) start line →
+    (ls : List Label) (last : Situation) → Execution (tablesOf s) start line ls (final (tablesOf s)) last →
+    lampProblem (tablesOf s) .Goal last → Served s start line
+goal-served s opened start line beginning ls last execution goal =
     let serves = serves-execution s opened execution (begins-within (tablesOf s) (well-formed s (head s) opened) beginning) in
     record {
-      begun = firstMachine (tablesOf s) (length lamps);
-      begins = begin-opened s opened (length lamps);
+      begun = firstMachine (tablesOf s) (length (line .lamps));
+      begins = begin-opened s opened (length (line .lamps));
       labels = ls;
       last = last;
       execution = execution;
@@ -40,12 +40,12 @@ goal-served s opened start lamps beginning ls last execution goal =
 
 pub cabinet-served : CabinetServed
 unfolding Correct
-cabinet-served s count before after checked start lamps beginning few =
+cabinet-served s count before after checked start line beginning few =
     let (opened, accepts) = accepted-means s before after count checked in
-    let (ls, last, execution, goal) = accepts .correct (situation start (lampLine lamps)) beginning in
-    goal-served s opened start lamps beginning ls last execution goal
+    let (ls, last, execution, goal) = accepts .correct (situation start line) beginning in
+    goal-served s opened start line beginning ls last execution goal
 
 pub cabinet-follows : CabinetFollows
-cabinet-follows s j opened start lamps beginning begun begins ls q at execution =
-    let same : begun ≡ firstMachine (tablesOf s) (length lamps) = cc (begin-opened s opened (length lamps)) in
+cabinet-follows s j opened start line beginning begun begins ls q at execution =
+    let same : begun ≡ firstMachine (tablesOf s) (length (line .lamps)) = cc (begin-opened s opened (length (line .lamps))) in
     rw same (execution-reported s opened execution (begins-within (tablesOf s) (well-formed s j opened) beginning))

@@ -11,7 +11,7 @@ use lib.Seq.{length-take-le}
 use Rattle.lamp_line.specs.declared.WorldState.{WorldState}
 use Rattle.lamp_line.specs.declared.FailureKind.{FailureKind}
 use Rattle.lamp_line.specs.declared.Ending.the-variants.{Goal, Failure}
-use Rattle.lamp_line.specs.Tables.{Tables, Line, lampLine, Beginning, lampProblem, planOf}
+use Rattle.lamp_line.specs.Tables.{Tables, Line, lineOf, Beginning, lampProblem, planOf}
 use Rattle.lamp_line.specs.inner.WellFormed.{WellFormed}
 use Rattle.lamp_line.specs.Endings.{Leads}
 use Rattle.lamp_line.specs.Run.{Run, ran, run}
@@ -25,7 +25,7 @@ use Rattle.job_tables.proofs.Ranges.{well-formed}
 use Rattle.plan_check.specs.declared.CheckAnswer.{CheckAnswer}
 use Rattle.plan_check.specs.declared.CheckAnswer.the-variants as answer
 use Rattle.plan_check.specs.declared.Failure.{Failure as FailedAnswer}
-use Rattle.plan_check.specs.CheckAnswers.{AnsweredRight, Lent, CheckedBy, checkRefusal}
+use Rattle.plan_check.specs.CheckAnswers.{failedLine, AnsweredRight, Lent, CheckedBy, checkRefusal}
 use Rattle.guarantee.specs.CheckPromises.{AcceptedExactly, FailsExactly, SameChecks, CheckDetermined}
 
 -- ---- exactly when
@@ -72,18 +72,19 @@ same-parts : (n n′ : ℕ) (l l′ : List ℕ) → n ≡ n′ → take n l ≡ 
 same-parts n n′ l l′ e front rest = sym (take-append-drop n l) ∙ ap₂ (λ (a b : List ℕ). a ++ b) front rest ∙ take-append-drop n′ l′
 
 -- Failures with equal parts are equal.
-same-failure : (f g : FailedAnswer) → f .kind ≡ g .kind → f .start ≡ g .start → f .lamps ≡ g .lamps → f ≡ g
-same-failure f g kind start lamps = parts (f .kind) (g .kind) (f .start) (g .start) (f .lamps) (g .lamps) kind start lamps
+same-failure : (f g : FailedAnswer) → f .kind ≡ g .kind → f .start ≡ g .start → f .lamps ≡ g .lamps → f .end ≡ g .end → f ≡ g
+same-failure f g kind start lamps end =
+    parts (f .kind) (g .kind) (f .start) (g .start) (f .lamps) (g .lamps) (f .end) (g .end) kind start lamps end
   where
     parts :
-        (k k′ : FailureKind) (s s′ : WorldState) (n n′ : ℕ) → k ≡ k′ → s ≡ s′ → n ≡ n′ →
-        _≡_ {A = FailedAnswer} (record { kind = k; start = s; lamps = n }) (record { kind = k′; start = s′; lamps = n′ })
-    parts k k′ s s′ n n′ e f g = rw (e, f, g)
+        (k k′ : FailureKind) (s s′ : WorldState) (n n′ e e′ : ℕ) → k ≡ k′ → s ≡ s′ → n ≡ n′ → e ≡ e′ →
+        _≡_ {A = FailedAnswer} (record { kind = k; start = s; lamps = n; end = e }) (record { kind = k′; start = s′; lamps = n′; end = e′ })
+    parts k k′ s s′ n n′ e e′ same-kind same-start same-lamps same-end = rw (same-kind, same-start, same-lamps, same-end)
 
--- The lamps of a verdict's failing line.
-abbrev failingLamps : Verdict → List ℕ
-failingLamps (accepted n) = []
-failingLamps (failed kind start line) = line .lamps
+-- A verdict's failing line.
+abbrev failingLine : Verdict → Line
+failingLine (accepted n) = lineOf 0 []
+failingLine (failed kind start line) = line
 
 module _ (t : Tables) (wf : WellFormed t) where
   -- Two right answers for the same line buffer are equal, and leave it equal.
@@ -95,23 +96,24 @@ module _ (t : Tables) (wf : WellFormed t) where
       let e = right-once t wf (accepted m) (accepted n) right right′ in
       (cc, same ∙ sym same′)
   answered-once (answer.Accepted m) (answer.Failed f) line line′ line″ (right, same) d =
-      let e = right-once t wf (accepted m) (failed (f .kind) (f .start) (lampLine (take (f .lamps) line″))) right (d .right) in
+      let e = right-once t wf (accepted m) (failed (f .kind) (f .start) (failedLine f line″)) right (d .right) in
       absurd (let z : _≡_ {A = ℕ} 0 1 = cc in omega arith)
   answered-once (answer.Failed f) (answer.Accepted n) line line′ line″ d (right, same) =
-      let e = right-once t wf (failed (f .kind) (f .start) (lampLine (take (f .lamps) line′))) (accepted n) (d .right) right in
+      let e = right-once t wf (failed (f .kind) (f .start) (failedLine f line′)) (accepted n) (d .right) right in
       absurd (let z : _≡_ {A = ℕ} 0 1 = cc in omega arith)
   answered-once (answer.Failed f) (answer.Failed g) line line′ line″ d d′ =
       let e =
-      right-once t wf (failed (f .kind) (f .start) (lampLine (take (f .lamps) line′))) (failed (g .kind) (g .start) (lampLine (take (g .lamps) line″)))
+      right-once t wf (failed (f .kind) (f .start) (failedLine f line′)) (failed (g .kind) (g .start) (failedLine g line″))
       (d .right) (d′ .right) in
       let same-kind : f .kind ≡ g .kind = cc in
       let same-start : f .start ≡ g .start = cc in
-      let front : take (f .lamps) line′ ≡ take (g .lamps) line″ = ap failingLamps e in
+      let front : take (f .lamps) line′ ≡ take (g .lamps) line″ = ap (λ (v : Verdict). failingLine v .lamps) e in
+      let same-end : f .end ≡ g .end = ap (λ (v : Verdict). failingLine v .end) e in
       let same-lamps : f .lamps ≡ g .lamps =
       sym (length-take-le (f .lamps) line′ (d .within)) ∙ ap length front ∙ length-take-le (g .lamps) line″ (d′ .within) in
       let rest : drop (f .lamps) line′ ≡ drop (g .lamps) line″ =
       d .others ∙ ap (λ (n : ℕ). drop n line) same-lamps ∙ sym (d′ .others) in
-      (ap answer.Failed (same-failure f g same-kind same-start same-lamps), same-parts (f .lamps) (g .lamps) line′ line″ same-lamps front rest)
+      (ap answer.Failed (same-failure f g same-kind same-start same-lamps same-end), same-parts (f .lamps) (g .lamps) line′ line″ same-lamps front rest)
   answered-once (answer.Accepted m) (answer.Refused n) line line′ line″ d e = absurd e
   answered-once (answer.Failed f) (answer.Refused n) line line′ line″ d e = absurd e
   answered-once (answer.Refused n) r′ line line′ line″ d e = absurd d

@@ -5,8 +5,6 @@ use mathlib.Core.Option.{Option, none, some}
 use mathlib.Core.List.{List}
 use Prim.Native.Nat.{ℕ}
 use native.Mathlib.Omega.{arith}
-use lib.ListN.{take}
-use Rattle.lamp_line.specs.Tables.{lampLine}
 use Rattle.lamp_line.specs.Check.{Accepts, Counterexample, Right}
 use Rattle.lamp_line.specs.ShortCheck.{NoneUpTo}
 use Rattle.job_layout.specs.Layout.{head}
@@ -16,7 +14,7 @@ use Rattle.job_file.proofs.Opening.{opened-unrefused}
 use Rattle.plan_check.specs.declared.CheckAnswer.the-variants as answer
 use Rattle.plan_check.specs.declared.Failure.{Failure as FailedAnswer}
 use Rattle.plan_check.specs.declared.ShortAnswer.the-variants as short
-use Rattle.plan_check.specs.CheckAnswers.{AnsweredRight, Lent, CheckedBy, checkRefusal, Checked}
+use Rattle.plan_check.specs.CheckAnswers.{failedLine, AnsweredRight, Lent, CheckedBy, checkRefusal, Checked}
 use Rattle.plan_check.specs.ShortAnswers.{AnsweredUpTo, CheckedUpTo}
 
 module _ (s : List ℕ) (before after : Lent) where
@@ -34,13 +32,13 @@ module _ (s : List ℕ) (before after : Lent) where
   -- Failed: the line at the front of the buffer is a counterexample.
   pub failed-means :
       (f : FailedAnswer) → Checked s (answer.Failed f) before after →
-      Opened s (head s) × Counterexample (tablesOf s) (f .kind) (f .start) (lampLine (take (f .lamps) (after .line)))
+      Opened s (head s) × Counterexample (tablesOf s) (f .kind) (f .start) (failedLine f (after .line))
   unfolding AnsweredRight Right
   failed-means f = by (checkRefusal s before) refl
     where
       by :
           (o : Option ℕ) → checkRefusal s before ≡ o → CheckedBy answer.Refused (AnsweredRight (tablesOf s)) o (answer.Failed f) before after →
-          Opened s (head s) × Counterexample (tablesOf s) (f .kind) (f .start) (lampLine (take (f .lamps) (after .line)))
+          Opened s (head s) × Counterexample (tablesOf s) (f .kind) (f .start) (failedLine f (after .line))
       by none e right = (opened-unrefused s _ e, right .right)
       by (some number) e (refused, same) = absurd (let z : _≡_ {A = ℕ} 0 1 = cc in omega arith)
 

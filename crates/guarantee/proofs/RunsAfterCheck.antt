@@ -7,7 +7,7 @@ use Rattle.plans.specs.Execution.{Correct}
 use Rattle.lamp_line.specs.declared.WorldState.{WorldState}
 use Rattle.lamp_line.specs.declared.Ending.{Ending}
 use Rattle.lamp_line.specs.declared.Ending.the-variants.{Goal, Failure}
-use Rattle.lamp_line.specs.Tables.{lampLine, lampProblem, planOf, final}
+use Rattle.lamp_line.specs.Tables.{Line, lampProblem, planOf, final}
 use Rattle.lamp_line.specs.Endings.{Ends, Leads}
 use Rattle.lamp_line.specs.Check.{situation}
 use Rattle.check_laws.proofs.RunLeads.{leads-run}
@@ -22,18 +22,18 @@ use Rattle.guarantee.proofs.CheckMeans.{accepted-means, failed-means}
 
 -- An ending of the execution is that of the run.
 pub run-ends :
-    {s : List ℕ} {start : WorldState} {lamps : List ℕ} → UnrefusedRun s start lamps → (x : Ending) →
-    Leads (lampProblem (tablesOf s)) (planOf (tablesOf s)) x (tablesOf s .first) (situation start (lampLine lamps)) →
-    RunEnds s start lamps x
-run-ends {s} {start} {lamps} unrefused x leads =
-    let (k, e) = leads-run (tablesOf s) (well-formed s (head s) (unrefused .opened)) start (lampLine lamps) (unrefused .beginning) x leads in
+    {s : List ℕ} {start : WorldState} {line : Line} → UnrefusedRun s start line → (x : Ending) →
+    Leads (lampProblem (tablesOf s)) (planOf (tablesOf s)) x (tablesOf s .first) (situation start line) →
+    RunEnds s start line x
+run-ends {s} {start} {line} unrefused x leads =
+    let (k, e) = leads-run (tablesOf s) (well-formed s (head s) (unrefused .opened)) start line (unrefused .beginning) x leads in
     record { steps = k; few = few-counted unrefused x k e; ends = λ limit k≤. ends-so unrefused limit x k e k≤ }
 
 pub accepted-runs : AcceptedRuns
 unfolding Leads Correct Ends
-accepted-runs s count before after checked start lamps beginning few =
+accepted-runs s count before after checked start line beginning few =
     let (opened, accepts) = accepted-means s before after count checked in
-    let (ls, last, execution, goal) = accepts .correct (situation start (lampLine lamps)) beginning in
+    let (ls, last, execution, goal) = accepts .correct (situation start line) beginning in
     run-ends (record { opened = opened; beginning = beginning; few = few }) Goal (ls, final (tablesOf s), last, execution, (refl, goal))
 
 pub failed-runs : FailedRuns

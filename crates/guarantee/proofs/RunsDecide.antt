@@ -13,7 +13,7 @@ use Rattle.lamp_line.specs.declared.WorldState.{WorldState}
 use Rattle.lamp_line.specs.declared.FailureKind.the-variants.{Circles}
 use Rattle.lamp_line.specs.declared.Ending.{Ending}
 use Rattle.lamp_line.specs.declared.Ending.the-variants.{Failure}
-use Rattle.lamp_line.specs.Tables.{lampLine, lampTheory, planOf}
+use Rattle.lamp_line.specs.Tables.{Line, lampTheory, planOf}
 use Rattle.lamp_line.specs.Run.{Run, ran, run, limited, within, stopped}
 use Rattle.lamp_line.specs.Executions.{Comes}
 use Rattle.lamp_line.proofs.Products.{product-le}
@@ -48,27 +48,27 @@ stops-beyond limit k n x false e h = (cc, leb-false k limit e)
 
 -- ---- a run that is not refused
 
-module _ {s : List ℕ} {start : WorldState} {lamps : List ℕ} (unrefused : UnrefusedRun s start lamps) where
+module _ {s : List ℕ} {start : WorldState} {line : Line} (unrefused : UnrefusedRun s start line) where
   abbrev defined : Run
-  defined = run (tablesOf s) start (lampLine lamps)
+  defined = run (tablesOf s) start line
 
   -- Its answer is what the definition gives within the limit.
-  pub answers : (limit : ℕ) → runAnswer s start lamps limit ≡ runAnswerOf (limited limit defined)
+  pub answers : (limit : ℕ) → runAnswer s start line limit ≡ runAnswerOf (limited limit defined)
   answers limit =
-      run-by-rules s start lamps limit (unrefused .opened)
+      run-by-rules s start line limit (unrefused .opened)
       ∙ rw (
         unrefused .beginning .marked,
-        line-not-wrong (head s .kinds) lamps (unrefused .few) (unrefused .beginning .fits .of-kinds),
+        line-not-wrong (tablesOf s) line (unrefused .few) (unrefused .beginning .fits),
       )
 
   -- The definition has the ending and the steps of the execution.
-  pub comes : (x : Ending) (k : ℕ) → (defined ≡ ran x k) ↔ Comes (tablesOf s) x k start (lampLine lamps)
+  pub comes : (x : Ending) (k : ℕ) → (defined ≡ ran x k) ↔ Comes (tablesOf s) x k start line
   comes =
-      run-is-execution (tablesOf s) (well-formed s (head s) (unrefused .opened)) start (lampLine lamps) (unrefused .beginning)
+      run-is-execution (tablesOf s) (well-formed s (head s) (unrefused .opened)) start line (unrefused .beginning)
 
   -- An answer with an ending is the definition's.
   pub ended-so :
-      (limit : ℕ) (x : Ending) (k : ℕ) → runAnswer s start lamps limit ≡ answer.Ended x k → (defined ≡ ran x k) × (k ≤ limit)
+      (limit : ℕ) (x : Ending) (k : ℕ) → runAnswer s start line limit ≡ answer.Ended x k → (defined ≡ ran x k) × (k ≤ limit)
   ended-so limit x k h = by defined refl
     where
       by : (r : Run) → defined ≡ r → (defined ≡ ran x k) × (k ≤ limit)
@@ -77,7 +77,7 @@ module _ {s : List ℕ} {start : WorldState} {lamps : List ℕ} (unrefused : Unr
           (e ∙ ended .0, ended .1)
 
   -- If the definition ends within the limit, the answer is that ending.
-  pub ends-so : (limit : ℕ) (x : Ending) (k : ℕ) → defined ≡ ran x k → k ≤ limit → runAnswer s start lamps limit ≡ answer.Ended x k
+  pub ends-so : (limit : ℕ) (x : Ending) (k : ℕ) → defined ≡ ran x k → k ≤ limit → runAnswer s start line limit ≡ answer.Ended x k
   ends-so limit x k e k≤ = answers limit ∙ rw (e, le-leb k limit k≤)
 
   -- The definition's steps are few enough for a 32-bit limit.
@@ -85,19 +85,19 @@ module _ {s : List ℕ} {start : WorldState} {lamps : List ℕ} (unrefused : Unr
   few-counted x k e =
       omega (
         arith,
-        run-is-bounded (tablesOf s) start (lampLine lamps) x k e,
-        product-le 65536 4096 (length lamps + 1) (tablesOf s .states * tablesOf s .worlds)
+        run-is-bounded (tablesOf s) start line x k e,
+        product-le 65536 4096 (length (line .lamps) + 1) (tablesOf s .states * tablesOf s .worlds)
             (omega (arith, unrefused .few)) (few-steps s (head s) (unrefused .opened)),
       )
 
   stopped-so :
-      (limit n : ℕ) → runAnswer s start lamps limit ≡ answer.Stopped n →
-      (n ≡ limit) × ((x : Ending) (k : ℕ) → Comes (tablesOf s) x k start (lampLine lamps) → limit < k)
+      (limit n : ℕ) → runAnswer s start line limit ≡ answer.Stopped n →
+      (n ≡ limit) × ((x : Ending) (k : ℕ) → Comes (tablesOf s) x k start line → limit < k)
   stopped-so limit n h = by defined refl
     where
       by :
           (r : Run) → defined ≡ r →
-          (n ≡ limit) × ((x : Ending) (k : ℕ) → Comes (tablesOf s) x k start (lampLine lamps) → limit < k)
+          (n ≡ limit) × ((x : Ending) (k : ℕ) → Comes (tablesOf s) x k start line → limit < k)
       by (ran x′ k′) e =
           let stops = stops-beyond limit k′ n x′ (leb k′ limit) refl (sym (answers limit ∙ rw e) ∙ h) in (
             stops .0,
@@ -106,42 +106,42 @@ module _ {s : List ℕ} {start : WorldState} {lamps : List ℕ} (unrefused : Unr
           )
 
   stops-so :
-      (limit n : ℕ) → n ≡ limit → ((x : Ending) (k : ℕ) → Comes (tablesOf s) x k start (lampLine lamps) → limit < k) →
-      runAnswer s start lamps limit ≡ answer.Stopped n
+      (limit n : ℕ) → n ≡ limit → ((x : Ending) (k : ℕ) → Comes (tablesOf s) x k start line → limit < k) →
+      runAnswer s start line limit ≡ answer.Stopped n
   stops-so limit n is-limit beyond = by defined refl
     where
-      by : (r : Run) → defined ≡ r → runAnswer s start lamps limit ≡ answer.Stopped n
+      by : (r : Run) → defined ≡ r → runAnswer s start line limit ≡ answer.Stopped n
       by (ran x′ k′) e =
           answers limit ∙ (rw (e, lt-leb k′ limit (beyond x′ k′ (comes x′ k′ .0 e))) (ap answer.Stopped (sym is-limit)))
 
 -- ---- the promises
 
 pub run-ends-exactly : RunEndsExactly
-run-ends-exactly s start lamps not-refused limit x k =
-    let unrefused = unrefused-run s start lamps not-refused in (
+run-ends-exactly s start line not-refused limit x k =
+    let unrefused = unrefused-run s start line not-refused in (
       λ h. let (e, k≤) = ended-so unrefused limit x k h in (comes unrefused x k .0 e, k≤),
       λ (c, k≤). ends-so unrefused limit x k (comes unrefused x k .1 c) k≤,
     )
 
 pub run-stops-exactly : RunStopsExactly
-run-stops-exactly s start lamps not-refused limit n =
-    let unrefused = unrefused-run s start lamps not-refused in
+run-stops-exactly s start line not-refused limit n =
+    let unrefused = unrefused-run s start line not-refused in
     (stopped-so unrefused limit n, λ (is-limit, beyond). stops-so unrefused limit n is-limit beyond)
 
 pub run-circles-exactly : RunCirclesExactly
-run-circles-exactly s start lamps not-refused =
-    let unrefused = unrefused-run s start lamps not-refused in
+run-circles-exactly s start line not-refused =
+    let unrefused = unrefused-run s start line not-refused in
     let decides =
-    circles-forever (tablesOf s) (well-formed s (head s) (unrefused .opened)) start (lampLine lamps) (unrefused .beginning) in (
+    circles-forever (tablesOf s) (well-formed s (head s) (unrefused .opened)) start line (unrefused .beginning) in (
       λ (k, h). decides .0 (k, ended-so unrefused 4294967295 (Failure Circles) k h .0),
       λ forever. let (k, e) = decides .1 forever in
           (k, ends-so unrefused 4294967295 (Failure Circles) k e (few-counted unrefused (Failure Circles) k e)),
     )
 
 pub run-bounded : RunIsBounded
-run-bounded s start lamps not-refused limit x k h =
-    let unrefused = unrefused-run s start lamps not-refused in
-    run-is-bounded (tablesOf s) start (lampLine lamps) x k (ended-so unrefused limit x k h .0)
+run-bounded s start line not-refused limit x k h =
+    let unrefused = unrefused-run s start line not-refused in
+    run-is-bounded (tablesOf s) start line x k (ended-so unrefused limit x k h .0)
 
 pub deterministic : Deterministic
 deterministic s j opened q q₁ q₂ at at₁ at₂ ls ms =

@@ -9,7 +9,7 @@ use native.Mathlib.Omega.{arith}
 use lib.ListN.{length, take}
 use lib.Seq.{length-take-le}
 use Rattle.lamp_line.specs.declared.Ending.the-variants.{Goal}
-use Rattle.lamp_line.specs.Tables.{Tables, lampLine}
+use Rattle.lamp_line.specs.Tables.{Tables}
 use Rattle.lamp_line.specs.inner.WellFormed.{WellFormed}
 use Rattle.lamp_line.specs.Endings.{Ends, Leads}
 use Rattle.lamp_line.specs.Check.{failed, Right}
@@ -26,7 +26,7 @@ use Rattle.plan_check.specs.declared.CheckAnswer.{CheckAnswer}
 use Rattle.plan_check.specs.declared.CheckAnswer.the-variants as full
 use Rattle.plan_check.specs.declared.ShortAnswer.{ShortAnswer}
 use Rattle.plan_check.specs.declared.ShortAnswer.the-variants as short
-use Rattle.plan_check.specs.CheckAnswers.{FailedRight, AnsweredRight, Lent, CheckedBy, checkRefusal}
+use Rattle.plan_check.specs.CheckAnswers.{failedLine, FailedRight, AnsweredRight, Lent, CheckedBy, checkRefusal}
 use Rattle.plan_check.specs.ShortAnswers.{AnsweredUpTo, CheckedUpTo}
 use Rattle.guarantee.specs.CheckPromises.{SameChecks}
 use Rattle.guarantee.specs.ShortCheckPromises.{AsFull, ShortAsFull, FailedAsFull, ShortDetermined, GoalUpTo, NoneExactly, NoneRuns, NoneServed, FarEnough}
@@ -57,7 +57,7 @@ module _ (t : Tables) (wf : WellFormed t) where
         (f : FailedAnswer) (line line′ : List ℕ) → FailedRight t f line line′ → (longest < f .lamps) ↔ NoneUpTo t longest
     none-beyond f line line′ d =
         subst (λ (n : ℕ). (longest < n) ↔ NoneUpTo t longest) (line-size d)
-        (beyond-exactly t wf longest (failed (f .kind) (f .start) (lampLine (take (f .lamps) line′))) (d .right))
+        (beyond-exactly t wf longest (failed (f .kind) (f .start) (failedLine f line′)) (d .right))
 
     module _ (before after after′ : Lent) where
       -- A right answer of the short check is what the full check's makes it.
@@ -201,16 +201,16 @@ goal-up-to s longest n before after checked =
     (opened, none-goal (tablesOf s) (well-formed s (head s) opened) longest .0 none-fails)
 
 pub none-runs : NoneRuns
-none-runs s longest n before after checked small start lamps beginning few =
+none-runs s longest n before after checked small start line beginning few =
     let (opened, good) = goal-up-to s longest n before after checked in
-    run-ends (record { opened = opened; beginning = beginning; few = omega arith }) Goal (good start (lampLine lamps) beginning few)
+    run-ends (record { opened = opened; beginning = beginning; few = omega arith }) Goal (good start line beginning few)
 
 pub none-served : NoneServed
 unfolding Leads Ends
-none-served s longest n before after checked small start lamps beginning few =
+none-served s longest n before after checked small start line beginning few =
     let (opened, good) = goal-up-to s longest n before after checked in
-    let (ls, q, last, execution, (is-final, goal)) = good start (lampLine lamps) beginning few in
-    goal-served s opened start lamps beginning ls last (rw is-final at execution) goal
+    let (ls, q, last, execution, (is-final, goal)) = good start line beginning few in
+    goal-served s opened start line beginning ls last (rw is-final at execution) goal
 
 pub none-far-enough : FarEnough
 none-far-enough s longest n before after checked far =

@@ -4,12 +4,10 @@ use mathlib.Core.Bool.{Bool, true, false, _||_, not}
 use mathlib.Core.Option.{none}
 use mathlib.Core.List.{List, [], _∷_}
 use Prim.Native.Nat.{ℕ, _≤_}
-use native.Mathlib.Omega.{arith}
-use borrow.Author.Tests.{ltb-false}
-use lib.Dec.{leb, ltb}
+use lib.Dec.{leb}
 use lib.ListN.{length}
 use Rattle.lamp_line.specs.declared.WorldState.{WorldState}
-use Rattle.lamp_line.specs.Tables.{lampLine, Beginning}
+use Rattle.lamp_line.specs.Tables.{Line, Beginning}
 use Rattle.lamp_line.specs.Refusals.{_when_, refusal}
 use Rattle.lamp_line.proofs.Answering.{none-of-both, first-not-applied}
 use Rattle.job_layout.specs.Layout.{head}
@@ -17,39 +15,34 @@ use Rattle.job_layout.specs.JobTables.{tablesOf}
 use Rattle.job_file.specs.Reading.{fileRules, Opened}
 use Rattle.job_file.proofs.Opening.{opened-unrefused}
 use Rattle.line_run.specs.RunAnswers.{startUnmarked, lineWrong, runRules}
-use Rattle.line_run.proofs.RunLoop.{line-right}
-use Rattle.check_laws.proofs.TableGraph.{one-end-kind}
+use Rattle.line_run.proofs.RunLoop.{line-right, line-few}
 
--- A run that is not refused: of the file, from a marked start, along at most 65,535 lamps of the job.
-pub record UnrefusedRun (s : List ℕ) (start : WorldState) (lamps : List ℕ) : Type 0 where
+-- A run that is not refused: of the file, from a marked start, along a line of the job with at most 65,535 lamps.
+pub record UnrefusedRun (s : List ℕ) (start : WorldState) (line : Line) : Type 0 where
   pub opened : Opened s (head s)
-  pub beginning : Beginning (tablesOf s) start (lampLine lamps)
-  pub few : length lamps ≤ 65535
+  pub beginning : Beginning (tablesOf s) start line
+  pub few : length (line .lamps) ≤ 65535
 
 marked-unless : (a b : Bool) → (a || not b) ≡ false → b ≡ true
 marked-unless a true e = refl
 marked-unless true false e = sym e
 marked-unless false false e = sym e
 
-first-false : (a b : Bool) → (a || b) ≡ false → a ≡ false
-first-false true b e = e
-first-false false b e = refl
-
 -- A run whose rules do not apply is one.
 pub unrefused-run :
-    (s : List ℕ) (start : WorldState) (lamps : List ℕ) → refusal (runRules s start lamps) ≡ none → UnrefusedRun s start lamps
-unrefused-run s start lamps e =
-    let opened = opened-unrefused s ((14 when startUnmarked (tablesOf s) start) ∷ (15 when lineWrong (tablesOf s .kinds) lamps) ∷ []) e in
+    (s : List ℕ) (start : WorldState) (line : Line) → refusal (runRules s start line) ≡ none → UnrefusedRun s start line
+unrefused-run s start line e =
+    let opened = opened-unrefused s ((14 when startUnmarked (tablesOf s) start) ∷ (15 when lineWrong (tablesOf s .kinds) (tablesOf s .ends) line) ∷ []) e in
     let own = none-of-both (fileRules s)
-    ((14 when startUnmarked (tablesOf s) start) ∷ (15 when lineWrong (tablesOf s .kinds) lamps) ∷ []) e .1 in
+    ((14 when startUnmarked (tablesOf s) start) ∷ (15 when lineWrong (tablesOf s .kinds) (tablesOf s .ends) line) ∷ []) e .1 in
     let (marked, after) = first-not-applied 14 (startUnmarked (tablesOf s) start) _ own in
-    let (right, _) = first-not-applied 15 (lineWrong (tablesOf s .kinds) lamps) [] after in
+    let (right, _) = first-not-applied 15 (lineWrong (tablesOf s .kinds) (tablesOf s .ends) line) [] after in
     record {
       opened = opened;
       beginning =
           record {
             marked = marked-unless (leb (tablesOf s .worlds) (start .0)) (tablesOf s .start start) marked;
-            fits = record { of-kinds = line-right (tablesOf s .kinds) lamps right; ended = omega (arith, one-end-kind (tablesOf s)) };
+            fits = line-right (tablesOf s) line right;
           };
-      few = ltb-false 65535 (length lamps) (first-false (ltb 65535 (length lamps)) _ right);
+      few = line-few (tablesOf s) line right;
     }

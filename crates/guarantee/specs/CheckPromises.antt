@@ -4,13 +4,13 @@ use mathlib.Core.Logic.{_↔_}
 use mathlib.Core.Option.{none}
 use mathlib.Core.List.{List}
 use Prim.Native.Nat.{ℕ, _≤_}
-use lib.ListN.{length, take}
+use lib.ListN.{length}
 use Rattle.plans.specs.Execution.{Correct}
 use Rattle.lamp_line.specs.declared.WorldState.{WorldState}
 use Rattle.lamp_line.specs.declared.FailureKind.{FailureKind}
 use Rattle.lamp_line.specs.declared.Ending.{Ending}
 use Rattle.lamp_line.specs.declared.Ending.the-variants.{Goal, Failure}
-use Rattle.lamp_line.specs.Tables.{Line, lampLine, Beginning, lampProblem, planOf}
+use Rattle.lamp_line.specs.Tables.{Line, Beginning, lampProblem, planOf}
 use Rattle.lamp_line.specs.Endings.{Leads}
 use Rattle.lamp_line.specs.Check.{situation, Fails}
 use Rattle.job_layout.specs.declared.Job.{Job}
@@ -21,12 +21,12 @@ use Rattle.line_run.specs.RunAnswers.{runAnswer}
 use Rattle.plan_check.specs.declared.Failure.{Failure as FailedAnswer}
 use Rattle.plan_check.specs.declared.CheckAnswer.{CheckAnswer}
 use Rattle.plan_check.specs.declared.CheckAnswer.the-variants as answer
-use Rattle.plan_check.specs.CheckAnswers.{Lent, checkRefusal, Checked}
+use Rattle.plan_check.specs.CheckAnswers.{failedLine, Lent, checkRefusal, Checked}
 
 -- ---- exactly when
 
 -- Unless it is refused, a check accepts exactly when the plan is correct in the sense of 001: it reaches the goal from all marked starts,
--- on all lines, however long.
+-- on all lines, however long, and with every kind of end.
 abbrev pub AcceptedExactly : Type 0
 AcceptedExactly =
     (s : List ℕ) (r : CheckAnswer) (before after : Lent) →
@@ -55,22 +55,23 @@ CheckDetermined =
 
 -- ---- runs after a check
 
--- The run along these lamps from the start has this ending. Its number of steps fits in 32 bits, and every limit that is not lower gives
+-- The run along this line from the start has this ending. Its number of steps fits in 32 bits, and every limit that is not lower gives
 -- this answer.
-pub record RunEnds (s : List ℕ) (start : WorldState) (lamps : List ℕ) (x : Ending) : Type 0 where
+pub record RunEnds (s : List ℕ) (start : WorldState) (line : Line) (x : Ending) : Type 0 where
   pub steps : ℕ
   pub few : steps ≤ 4294967295
-  pub ends : (limit : ℕ) → steps ≤ limit → runAnswer s start lamps limit ≡ run.Ended x steps
+  pub ends : (limit : ℕ) → steps ≤ limit → runAnswer s start line limit ≡ run.Ended x steps
 
--- If the check accepts, every run from a marked start along at most 65,535 lamps of the job ends in Goal.
+-- If the check accepts, every run from a marked start along a line of the job with at most 65,535 lamps ends in Goal.
 abbrev pub AcceptedRuns : Type 0
 AcceptedRuns =
     (s : List ℕ) (count : ℕ) (before after : Lent) → Checked s (answer.Accepted count) before after →
-    (start : WorldState) (lamps : List ℕ) → Beginning (tablesOf s) start (lampLine lamps) → length lamps ≤ 65535 →
-    RunEnds s start lamps Goal
+    (start : WorldState) (line : Line) → Beginning (tablesOf s) start line → length (line .lamps) ≤ 65535 →
+    RunEnds s start line Goal
 
--- If the check answers a failure, the run along the line that it wrote, from the start that it answered, ends in that failure.
+-- If the check answers a failure, the run along the line that it wrote, with the kind of end and from the start that it answered, ends in
+-- that failure.
 abbrev pub FailedRuns : Type 0
 FailedRuns =
     (s : List ℕ) (f : FailedAnswer) (before after : Lent) → Checked s (answer.Failed f) before after →
-    RunEnds s (f .start) (take (f .lamps) (after .line)) (Failure (f .kind))
+    RunEnds s (f .start) (failedLine f (after .line)) (Failure (f .kind))

@@ -11,7 +11,7 @@ use Rattle.lamp_line.specs.declared.WorldState.{WorldState}
 use Rattle.lamp_line.specs.declared.FailureKind.the-variants.{Circles}
 use Rattle.lamp_line.specs.declared.Ending.{Ending}
 use Rattle.lamp_line.specs.declared.Ending.the-variants.{Failure}
-use Rattle.lamp_line.specs.Tables.{Line, lampLine, column, Situation, lampTheory, planOf}
+use Rattle.lamp_line.specs.Tables.{Line, column, Situation, lampTheory, planOf}
 use Rattle.lamp_line.specs.Refusals.{refusal}
 use Rattle.lamp_line.specs.Run.{Pair, lampWalk}
 use Rattle.lamp_line.specs.Check.{situation}
@@ -25,35 +25,35 @@ use Rattle.line_run.specs.RunAnswers.{runRules, runAnswer}
 
 -- ---- the run
 
--- A statement about every run that is not refused, from a start along the lamps of a line.
-abbrev OfEveryRun : (List ℕ → WorldState → List ℕ → Type 0) → Type 0
-OfEveryRun Says = (s : List ℕ) (start : WorldState) (lamps : List ℕ) → refusal (runRules s start lamps) ≡ none → Says s start lamps
+-- A statement about every run that is not refused, from a start along a line.
+abbrev OfEveryRun : (List ℕ → WorldState → Line → Type 0) → Type 0
+OfEveryRun Says = (s : List ℕ) (start : WorldState) (line : Line) → refusal (runRules s start line) ≡ none → Says s start line
 
 -- An ending with k steps is answered exactly when the execution reaches that ending with k counted steps and the limit allows k.
 abbrev pub RunEndsExactly : Type 0
 RunEndsExactly =
-    OfEveryRun (λ s start lamps. (limit : ℕ) (x : Ending) (k : ℕ) →
-    (runAnswer s start lamps limit ≡ answer.Ended x k) ↔ (Comes (tablesOf s) x k start (lampLine lamps) × (k ≤ limit)))
+    OfEveryRun (λ s start line. (limit : ℕ) (x : Ending) (k : ℕ) →
+    (runAnswer s start line limit ≡ answer.Ended x k) ↔ (Comes (tablesOf s) x k start line × (k ≤ limit)))
 
 -- Stopped is answered exactly when the execution has no ending within the limit; the number in the answer is the limit.
 abbrev pub RunStopsExactly : Type 0
 RunStopsExactly =
-    OfEveryRun (λ s start lamps. (limit n : ℕ) →
-    (runAnswer s start lamps limit ≡ answer.Stopped n)
-    ↔ ((n ≡ limit) × ((x : Ending) (k : ℕ) → Comes (tablesOf s) x k start (lampLine lamps) → limit < k)))
+    OfEveryRun (λ s start line. (limit n : ℕ) →
+    (runAnswer s start line limit ≡ answer.Stopped n)
+    ↔ ((n ≡ limit) × ((x : Ending) (k : ℕ) → Comes (tablesOf s) x k start line → limit < k)))
 
 -- With the greatest 32-bit limit, the answer is failure 3 exactly for executions that never end.
 abbrev pub RunCirclesExactly : Type 0
 RunCirclesExactly =
-    OfEveryRun (λ s start lamps.
-    ((k : ℕ) × (runAnswer s start lamps 4294967295 ≡ answer.Ended (Failure Circles) k))
-    ↔ Forever (lampTheory (tablesOf s)) (planOf (tablesOf s)) (tablesOf s .first) (situation start (lampLine lamps)))
+    OfEveryRun (λ s start line.
+    ((k : ℕ) × (runAnswer s start line 4294967295 ≡ answer.Ended (Failure Circles) k))
+    ↔ Forever (lampTheory (tablesOf s)) (planOf (tablesOf s)) (tablesOf s .first) (situation start line))
 
 -- Along n lamps at most (n + 1)·S·W steps are counted.
 abbrev pub RunIsBounded : Type 0
 RunIsBounded =
-    OfEveryRun (λ s start lamps. (limit : ℕ) (x : Ending) (k : ℕ) → runAnswer s start lamps limit ≡ answer.Ended x k →
-    k ≤ (length lamps + 1) * (tablesOf s .states * tablesOf s .worlds))
+    OfEveryRun (λ s start line. (limit : ℕ) (x : Ending) (k : ℕ) → runAnswer s start line limit ≡ answer.Ended x k →
+    k ≤ (length (line .lamps) + 1) * (tablesOf s .states * tablesOf s .worlds))
 
 -- ---- the execution, and the one-lamp walk
 

@@ -8,7 +8,7 @@ use lib.ListN.{length}
 use Rattle.plans.specs.Execution.{Correct}
 use Rattle.lamp_line.specs.declared.WorldState.{WorldState}
 use Rattle.lamp_line.specs.declared.Ending.the-variants.{Goal}
-use Rattle.lamp_line.specs.Tables.{Tables, Line, lampLine, Beginning, lampProblem, planOf}
+use Rattle.lamp_line.specs.Tables.{Tables, Line, Beginning, lampProblem, planOf}
 use Rattle.lamp_line.specs.Endings.{Leads}
 use Rattle.lamp_line.specs.Check.{situation}
 use Rattle.job_layout.specs.JobTables.{tablesOf}
@@ -66,16 +66,16 @@ NoneExactly =
     checkRefusal s before ≡ none → CheckedUpTo s longest r before after →
     (r ≡ short.NoneUpTo longest) ↔ GoalUpTo (tablesOf s) longest
 
--- A statement about every marked start and all lamps of a line of the job, up to a number of them that an operation can hold, after a
--- short check has answered none.
-abbrev AfterNone : (List ℕ → WorldState → List ℕ → Type 0) → Type 0
+-- A statement about every marked start and every line of the job with at most as many lamps as the bound, after a short check has answered
+-- none; an operation can hold such a line.
+abbrev AfterNone : (List ℕ → WorldState → Line → Type 0) → Type 0
 AfterNone Says =
     (s : List ℕ) (longest n : ℕ) (before after : Lent) → CheckedUpTo s longest (short.NoneUpTo n) before after → longest ≤ 65535 →
-    (start : WorldState) (lamps : List ℕ) → Beginning (tablesOf s) start (lampLine lamps) → length lamps ≤ longest → Says s start lamps
+    (start : WorldState) (line : Line) → Beginning (tablesOf s) start line → length (line .lamps) ≤ longest → Says s start line
 
 -- Every run along such a line ends in Goal.
 abbrev pub NoneRuns : Type 0
-NoneRuns = AfterNone (λ s start lamps. RunEnds s start lamps Goal)
+NoneRuns = AfterNone (λ s start line. RunEnds s start line Goal)
 
 -- Every cabinet on such a line is served as after the full check has accepted.
 abbrev pub NoneServed : Type 0

@@ -6,6 +6,7 @@ use Prim.Native.Nat.{ℕ, _≤_}
 use borrow.Author.Tests.{ltb-false, eqb-true, not-false}
 use lib.Dec.{ltb, eqb}
 use lib.ListN.{length}
+use Rattle.lamp_line.specs.Tables.{columns}
 use Rattle.job_layout.specs.declared.Job.{Job}
 use Rattle.job_layout.specs.declared.Part.{Part}
 use Rattle.job_layout.specs.inner.Laid.{Laid}
@@ -35,17 +36,17 @@ module _ (s : List ℕ) (j : Job) where
   record NumbersInside : Type 0 where
     pub actions : (1 ≤ j .actions) × (j .actions ≤ 16)
     pub worlds : (1 ≤ j .worlds) × (j .worlds ≤ 64)
-    pub kinds : (1 ≤ j .kinds) × (j .kinds ≤ 15)
+    pub kinds : 1 ≤ j .kinds
     pub results : (1 ≤ j .results) × (j .results ≤ 8)
     pub states : j .states ≤ 64
     pub first : j .first .0 ≤ j .states
+    pub columns-few : columns (j .ends) (j .kinds) ≤ 16
 
   numbers-inside : numberWrong s j ≡ false → NumbersInside
   unfolding numberWrong
   numbers-inside e =
-      let to-6 = neither _ _ e .0 in
-      let to-first = neither _ _ to-6 .0 in
-      let to-states = neither _ _ to-first in
+      let to-columns = neither _ _ (neither _ _ e .0) in
+      let to-states = neither _ _ (to-columns .0) in
       let to-results = neither _ _ (to-states .0) in
       let to-kinds = neither _ _ (to-results .0) in
       let to-worlds = neither _ _ (to-kinds .0) in
@@ -53,10 +54,11 @@ module _ (s : List ℕ) (j : Job) where
       record {
         actions = inside 1 16 (j .actions) (to-actions .0);
         worlds = inside 1 64 (j .worlds) (to-actions .1);
-        kinds = inside 1 15 (j .kinds) (to-worlds .1);
+        kinds = inside 1 15 (j .kinds) (to-worlds .1) .0;
         results = inside 1 8 (j .results) (to-kinds .1);
         states = inside 0 64 (j .states) (to-results .1) .1;
         first = inside 0 (j .states) (j .first .0) (to-states .1) .1;
+        columns-few = ltb-false 16 (columns (j .ends) (j .kinds)) (to-columns .1);
       }
 
   record PartsInside : Type 0 where
@@ -116,6 +118,7 @@ module _ (s : List ℕ) (j : Job) where
         results-range = n .results;
         states-range = n .states;
         first-range = n .first;
+        columns-range = n .columns-few;
         marks-in = rw (l .marks) at (p .marks);
         cells-in = rw (l .cells) at (p .cells);
         starts-in = rw (l .starts) at (p .starts);

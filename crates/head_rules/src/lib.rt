@@ -9,6 +9,7 @@ ghost use Rattle.job_layout.specs.Rules.{outside, numberWrong, endOf, misplaced
 use job_layout::Job;
 use job_layout::Part;
 use job_layout::places::cell_count;
+use job_layout::places::column_count;
 use job_layout::places::goal_count;
 use job_layout::places::plan_length;
 
@@ -29,7 +30,7 @@ pub fn number_wrong(file: &[u8], job: Job) -> bool
         | is_outside(1, 8, job.results)
         | is_outside(0, 64, job.states)
         | is_outside(0, job.states, job.first.0)
-        | is_outside(0, 0, file[6])
+        | (16 < column_count(job))
         | is_outside(0, 0, file[7])
 }
 

@@ -22,7 +22,7 @@ use Rattle.job_layout.specs.declared.Job.{Job}
 use Rattle.job_layout.specs.Layout.{byte, head, markPlace, nextPlace, resultPlace, actionPlace, targetPlace}
 use Rattle.job_layout.specs.JobTables.{outcomes, tablesBy, tablesOf}
 use Rattle.job_layout.specs.inner.Laid.{Laid}
-use Rattle.job_layout.specs.Rules.{notBit, isSet, cellWrongIn, cellWrongAt, legalAtEnd, movesOnAtEnd, actionWrongAt, targetWrongAt, rowWrong}
+use Rattle.job_layout.specs.Rules.{notBit, isSet, cellWrongIn, cellWrongAt, legalAt, legalAtEnd, movesOnAtEnd, actionWrongAt, targetWrongAt, rowWrong}
 use Rattle.head_rules.proofs.HeadLaws.{neither, laid}
 use Rattle.job_file.specs.Reading.{Opened}
 use Rattle.job_file.proofs.NoneApplies.{NoneApplies, none-applies}
@@ -72,7 +72,7 @@ only x y (inr h) = absurd h
 pub record LegalCell (s : List ℕ) (j : Job) (a : Action) (w : WorldState) (c : ℕ) (w′ : WorldState) (r : Result) : Type 0 where
   pub action-in : a < j .actions
   pub world-in : w .0 < j .worlds
-  pub column-in : c < columns (j .kinds)
+  pub column-in : c < columns (j .ends) (j .kinds)
   pub legal : eqb (byte s (resultPlace j a w c)) 255 ≡ false
   pub next : w′ .0 ≡ byte s (nextPlace j a w c)
   pub result : r ≡ byte s (resultPlace j a w c)
@@ -83,7 +83,7 @@ module _ (s : List ℕ) (j : Job) where
   unfolding _∈_
   legal-cell a w w′ c r =
       choice (λ l. outcome w′ r ∈ l → LegalCell s j a w c w′ r)
-      (ltb a (j .actions) && ltb (w .0) (j .worlds) && ltb c (columns (j .kinds)))
+      (ltb a (j .actions) && ltb (w .0) (j .worlds) && ltb c (columns (j .ends) (j .kinds)))
       (λ inside. choice (λ l. outcome w′ r ∈ l → LegalCell s j a w c w′ r) (eqb (byte s (resultPlace j a w c)) 255)
       (λ e m. absurd m)
       (λ e m. let is = only _ _ m in
@@ -103,20 +103,21 @@ module _ (s : List ℕ) (j : Job) where
     mark-bit : (a : Action) → a < j .actions → byte s (markPlace j a) ≤ 1
     mark-bit a a< = ltb-false _ _ (none-at (notBit s (j .marks .offset)) (j .actions) (none-applies .marks) a a<)
 
-    cell-right : (a : Action) (w : WorldState) (c : ℕ) → a < j .actions → w .0 < j .worlds → c < columns (j .kinds) →
+    cell-right : (a : Action) (w : WorldState) (c : ℕ) → a < j .actions → w .0 < j .worlds → c < columns (j .ends) (j .kinds) →
         cellWrongIn (j .worlds) (j .results) (byte s (nextPlace j a w c)) (byte s (resultPlace j a w c)) ≡ false
     cell-right a w c a< w< c< =
         let row = digits-lt {q = a} {m = j .actions} {r = w .0} {c = j .worlds} a< w< in
-        none-at (cellWrongAt s (j .cells .offset) (j .worlds) (j .results)) (j .actions * j .worlds * columns (j .kinds))
-        (none-applies .cells) ((a * j .worlds + w .0) * columns (j .kinds) + c) (digits-lt row c<)
+        none-at (cellWrongAt s (j .cells .offset) (j .worlds) (j .results)) (j .actions * j .worlds * columns (j .ends) (j .kinds))
+        (none-applies .cells) ((a * j .worlds + w .0) * columns (j .ends) (j .kinds) + c) (digits-lt row c<)
 
-    -- An action that moves on has 255 for its result in column 0.
-    end-result : (a : Action) (w : ℕ) → a < j .actions → w < j .worlds → eqb (byte s (markPlace j a)) 1 ≡ true →
-        eqb (byte s (resultPlace j a (worldState w) 0)) 255 ≡ true
-    end-result a w a< w< moves =
+    -- An action that moves on has 255 for its result at each end.
+    end-result : (a : Action) (w e : ℕ) → a < j .actions → w < j .worlds → e < j .ends + 1 → eqb (byte s (markPlace j a)) 1 ≡ true →
+        eqb (byte s (resultPlace j a (worldState w) e)) 255 ≡ true
+    end-result a w e a< w< e< moves =
         let here = none-at (movesOnAtEnd s j) (j .actions) (none-applies .ends) a a< in
         let nowhere = second _ _ here moves in
-        not-false _ (none-at (legalAtEnd s j a) (j .worlds) nowhere w w<)
+        let not-here = none-at (legalAtEnd s j a) (j .ends + 1) nowhere e e< in
+        not-false _ (none-at (legalAt s j a e) (j .worlds) not-here w w<)
 
     target-right : (q : ProgramState) (r : Result) → q .0 < j .states → r < j .results →
         eqb (byte s (targetPlace j q r)) 255 ≡ false → byte s (targetPlace j q r) ≤ j .states
@@ -133,7 +134,7 @@ module _ (s : List ℕ) (j : Job) where
     single : (a : Action) (w : WorldState) (c : ℕ) → length (tablesBy s j .cell a w c) ≤ 1
     single a w c =
         choice (λ (l : List Outcome). length l ≤ 1)
-        (ltb a (j .actions) && ltb (w .0) (j .worlds) && ltb c (columns (j .kinds)))
+        (ltb a (j .actions) && ltb (w .0) (j .worlds) && ltb c (columns (j .ends) (j .kinds)))
         (λ e. at-most-one (byte s (nextPlace j a w c)) (byte s (resultPlace j a w c)))
         (λ e. omega arith)
 
@@ -150,25 +151,23 @@ module _ (s : List ℕ) (j : Job) where
         rw (cell .result)
         (cell-result (j .worlds) (j .results) (byte s (nextPlace j a w c)) _ (cell-right a w c (cell .action-in) (cell .world-in) (cell .column-in)) (cell .legal))
 
-    -- An action that moves on has no outcome in column 0.
-    no-outcome : (a : Action) (w : WorldState) → a < j .actions → eqb (byte s (markPlace j a)) 1 ≡ true →
-        tablesBy s j .cell a w 0 ≡ []
-    no-outcome a w a< moves =
-        choice (λ l. l ≡ []) (ltb a (j .actions) && ltb (w .0) (j .worlds) && ltb 0 (columns (j .kinds)))
+    -- An action that moves on has no outcome at an end.
+    no-outcome : (a : Action) (w : WorldState) (c : ℕ) → a < j .actions → c < j .ends + 1 → eqb (byte s (markPlace j a)) 1 ≡ true →
+        tablesBy s j .cell a w c ≡ []
+    no-outcome a w c a< c< moves =
+        choice (λ l. l ≡ []) (ltb a (j .actions) && ltb (w .0) (j .worlds) && ltb c (columns (j .ends) (j .kinds)))
         (λ e. let w< = ltb-true _ _ (and-eq-true-iff (ltb a (j .actions)) _ .0 (and-eq-true-iff _ _ .0 e .0) .1) in
-        rw (end-result a (w .0) a< w< moves))
+        rw (end-result a (w .0) c a< w< c< moves))
         (λ e. refl)
 
     end-stays : (a : Action) (w : WorldState) (c : ℕ) → movesOn (tablesBy s j) a ≡ true → c < endKinds (tablesBy s j) →
         tablesBy s j .cell a w c ≡ []
     unfolding endKinds
     end-stays a w c moves c< =
-        let at-end : c ≡ 0 = omega arith in
-        rw at-end
-        (choice (λ n. eqb n 1 ≡ true → tablesBy s j .cell a w 0 ≡ []) (ltb a (j .actions))
-        (λ e m. no-outcome a w (ltb-true _ _ e) m)
+        choice (λ n. eqb n 1 ≡ true → tablesBy s j .cell a w c ≡ []) (ltb a (j .actions))
+        (λ e m. no-outcome a w c (ltb-true _ _ e) c< m)
         (λ e m. let z : false ≡ true = m in cc)
-        moves)
+        moves
 
     some-start : (w : WorldState) × (tablesBy s j .start w ≡ true)
     some-start =
@@ -202,6 +201,7 @@ module _ (s : List ℕ) (j : Job) where
           results-range = laid .results-range;
           states-range = laid .states-range;
           first-range = laid .first-range;
+          columns-range = laid .columns-range;
           mark-range = mark-range;
           single = single;
           next-range = next-range;
@@ -222,7 +222,7 @@ pub record Sound (s : List ℕ) (j : Job) : Type 0 where
   pub well-formed : WellFormed (tablesOf s)
   -- each cell's next world state is below W, whether the cell is legal or not
   pub next-below :
-      (a : Action) (w : WorldState) (c : ℕ) → a < j .actions → w .0 < j .worlds → c < columns (j .kinds) →
+      (a : Action) (w : WorldState) (c : ℕ) → a < j .actions → w .0 < j .worlds → c < columns (j .ends) (j .kinds) →
       byte s (nextPlace j a w c) < j .worlds
 
 -- This is known wherever the reader answered j.

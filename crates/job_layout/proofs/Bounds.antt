@@ -11,7 +11,7 @@ use mir.Val.{Fits}
 use Rattle.plans.specs.Plan.{Action, Result}
 use Rattle.lamp_line.specs.declared.ProgramState.{ProgramState}
 use Rattle.lamp_line.specs.declared.WorldState.{WorldState}
-use Rattle.lamp_line.specs.Tables.{columns}
+use Rattle.lamp_line.specs.Tables.{columns, lampColumn}
 use Rattle.lamp_line.proofs.Products.{product-le}
 use Rattle.job_layout.specs.declared.Job.{Job}
 use Rattle.job_layout.specs.inner.Laid.{Laid}
@@ -25,10 +25,15 @@ cell-fits action worlds world columns a w x c =
     let rows = product-le 255 255 action worlds a w in
     product-le 65280 65535 (action * worlds + world) columns (omega arith) c
 
--- Column 0 is one of the columns.
-pub column-zero-in : (kinds : ℕ) → 0 < columns kinds
+-- The column of an end is one of the columns.
+pub end-column-in : (ends kinds end : ℕ) → end < ends + 1 → end < columns ends kinds
 unfolding columns
-column-zero-in kinds = omega arith
+end-column-in ends kinds end is-end = omega arith
+
+-- So is the column of a lamp.
+pub lamp-column-in : (ends kinds kind : ℕ) → kind ≤ kinds → lampColumn ends kind < columns ends kinds
+unfolding columns lampColumn
+lamp-column-in ends kinds kind is-kind = omega arith
 
 -- What is below the length of a slice fits 64 bits.
 pub below-fits : (n m : ℕ) → n < m → m < 2 ^ 64 → Fits w64 n
@@ -44,11 +49,11 @@ module _ {s : List ℕ} {j : Job} (laid : Laid s j) {at : ℕ} where
   -- A cell: its next world state, and after it its result.
   module _
       (a : Action) (w : WorldState) (c : ℕ) (e : at ≡ nextPlace j a w c) (a< : a < j .actions) (w< : w .0 < j .worlds)
-      (c< : c < columns (j .kinds)) where
+      (c< : c < columns (j .ends) (j .kinds)) where
     pub result-in : at + 1 < length s
     result-in =
         let row = digits-lt {q = a} {m = j .actions} {r = w .0} {c = j .worlds} a< w< in
-        let cell = digits-lt {q = a * j .worlds + w .0} {m = j .actions * j .worlds} {r = c} {c = columns (j .kinds)} row c< in
+        let cell = digits-lt {q = a * j .worlds + w .0} {m = j .actions * j .worlds} {r = c} {c = columns (j .ends) (j .kinds)} row c< in
         omega (arith, laid .cells-in)
 
     pub next-in : at < length s
@@ -59,9 +64,9 @@ module _ {s : List ℕ} {j : Job} (laid : Laid s j) {at : ℕ} where
   start-in w e w< = omega (arith, laid .starts-in)
 
   -- A cell of the goal.
-  pub goal-in : (w : WorldState) (c : ℕ) → at ≡ goalPlace j w c → w .0 < j .worlds → c < columns (j .kinds) → at < length s
+  pub goal-in : (w : WorldState) (c : ℕ) → at ≡ goalPlace j w c → w .0 < j .worlds → c < columns (j .ends) (j .kinds) → at < length s
   goal-in w c e w< c< =
-      omega (arith, laid .goal-in, digits-lt {q = w .0} {m = j .worlds} {r = c} {c = columns (j .kinds)} w< c<)
+      omega (arith, laid .goal-in, digits-lt {q = w .0} {m = j .worlds} {r = c} {c = columns (j .ends) (j .kinds)} w< c<)
 
   -- The row of a program state: its action, and after it its targets.
   module _ (q : ProgramState) (e : at ≡ actionPlace j q) (q< : q .0 < j .states) where

@@ -28,13 +28,14 @@ tablesBy s j =
       results = j .results;
       states = j .states;
       first = j .first;
+      ends = j .ends;
       mark = λ a. cond (ltb a (j .actions)) (byte s (markPlace j a)) 0;
       cell = λ a w c.
-          cond (ltb a (j .actions) && ltb (w .0) (j .worlds) && ltb c (columns (j .kinds)))
+          cond (ltb a (j .actions) && ltb (w .0) (j .worlds) && ltb c (columns (j .ends) (j .kinds)))
           (outcomes (byte s (nextPlace j a w c)) (byte s (resultPlace j a w c)))
           [];
       start = λ w. ltb (w .0) (j .worlds) && eqb (byte s (startPlace j w)) 1;
-      goal = λ w c. ltb (w .0) (j .worlds) && ltb c (columns (j .kinds)) && eqb (byte s (goalPlace j w c)) 1;
+      goal = λ w c. ltb (w .0) (j .worlds) && ltb c (columns (j .ends) (j .kinds)) && eqb (byte s (goalPlace j w c)) 1;
       action = λ q. cond (ltb (q .0) (j .states)) (byte s (actionPlace j q)) 0;
       target = λ q r. cond (ltb (q .0) (j .states) && ltb r (j .results)) (branch (byte s (targetPlace j q r))) none;
     }

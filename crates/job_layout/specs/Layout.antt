@@ -1,4 +1,4 @@
--- The layout of a job file (01, "Job file"): its head, the lengths that its parts must have, and the place of each entry.
+-- The layout of a job file (01, "Job file"; 02, (c), for byte 6): its head, the lengths that its parts must have, and the place of each entry.
 -- A file is the list of its bytes.
 use mathlib.Core.List.{List}
 use Prim.Native.Nat.{ℕ, _+_, _*_}
@@ -22,7 +22,7 @@ number16 s i = byte s i + 256 * byte s (i + 1)
 abbrev pub part : List ℕ → ℕ → Part
 part s i = record { offset = number16 s i; length = number16 s (i + 2) }
 
--- The numbers in bytes 0 to 5, and the offsets and lengths of the five parts in bytes 8 to 27.
+-- The numbers in bytes 0 to 6, and the offsets and lengths of the five parts in bytes 8 to 27.
 abbrev pub head : List ℕ → Job
 head s =
     record {
@@ -32,6 +32,7 @@ head s =
       results = byte s 3;
       states = byte s 4;
       first = programState (byte s 5);
+      ends = byte s 6;
       marks = part s 8;
       cells = part s 12;
       starts = part s 16;
@@ -46,7 +47,7 @@ marksLength j = j .actions
 
 -- How many cells there are; each takes two bytes.
 abbrev pub cellCount : Job → ℕ
-cellCount j = j .actions * j .worlds * columns (j .kinds)
+cellCount j = j .actions * j .worlds * columns (j .ends) (j .kinds)
 
 abbrev pub cellsLength : Job → ℕ
 cellsLength j = 2 * cellCount j
@@ -55,7 +56,7 @@ abbrev pub startsLength : Job → ℕ
 startsLength j = j .worlds
 
 abbrev pub goalLength : Job → ℕ
-goalLength j = j .worlds * columns (j .kinds)
+goalLength j = j .worlds * columns (j .ends) (j .kinds)
 
 abbrev pub planLength : Job → ℕ
 planLength j = j .states * (1 + j .results)
@@ -68,7 +69,7 @@ markPlace j a = j .marks .offset + a
 
 -- The cells are ordered by action, then by world state, then by column. Each has two bytes: the next world state and the result.
 abbrev pub nextPlace : Job → Action → WorldState → ℕ → ℕ
-nextPlace j a w c = j .cells .offset + 2 * ((a * j .worlds + w .0) * columns (j .kinds) + c)
+nextPlace j a w c = j .cells .offset + 2 * ((a * j .worlds + w .0) * columns (j .ends) (j .kinds) + c)
 
 abbrev pub resultPlace : Job → Action → WorldState → ℕ → ℕ
 resultPlace j a w c = nextPlace j a w c + 1
@@ -79,7 +80,7 @@ startPlace j w = j .starts .offset + w .0
 
 -- The goal cells are ordered by world state, then by column.
 abbrev pub goalPlace : Job → WorldState → ℕ → ℕ
-goalPlace j w c = j .goal .offset + (w .0 * columns (j .kinds) + c)
+goalPlace j w c = j .goal .offset + (w .0 * columns (j .ends) (j .kinds) + c)
 
 -- The plan has a row for each program state: first its action, then its target for each result.
 abbrev pub actionPlace : Job → ProgramState → ℕ

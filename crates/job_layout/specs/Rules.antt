@@ -1,11 +1,11 @@
--- Refusals 1 to 11 (01, "Who can cause which number"): eleven conditions on the bytes of a file, each stated for a file s
+-- Refusals 1 to 11 (01, "Who can cause which number"; 02, (c), for 2 and 7): eleven conditions on the bytes of a file, each stated for a file s
 -- and its head j.
 use mathlib.Core.Bool.{Bool, _||_, _&&_, not}
 use mathlib.Core.List.{List}
 use Prim.Native.Nat.{ℕ, _+_, _*_}
 use lib.Dec.{eqb, leb, ltb}
 use lib.ListN.{length}
-use Rattle.lamp_line.specs.Tables.{programState, worldState}
+use Rattle.lamp_line.specs.Tables.{programState, worldState, columns}
 use Rattle.lamp_line.specs.Refusals.{some-below}
 use Rattle.job_layout.specs.declared.Part.{Part}
 use Rattle.job_layout.specs.declared.Job.{Job}
@@ -16,7 +16,7 @@ use Rattle.job_layout.specs.Layout.{byte, marksLength, cellCount, cellsL
 abbrev pub sizeWrong : List ℕ → Bool
 sizeWrong s = ltb (length s) 28 || ltb 65535 (length s)
 
--- ---- 2: one of the first eight bytes is not in its range
+-- ---- 2: one of the first eight bytes is not in its range, or there are more than 16 columns
 
 -- n is below the range from low to high, or above it.
 abbrev pub outside : ℕ → ℕ → ℕ → Bool
@@ -26,7 +26,7 @@ unfoldable pub numberWrong : List ℕ → Job → Bool
 numberWrong s j =
     outside 1 16 (j .actions) || outside 1 64 (j .worlds) || outside 1 15 (j .kinds) || outside 1 8 (j .results)
     || outside 0 64 (j .states) || outside 0 (j .states) (j .first .0)
-    || outside 0 0 (byte s 6) || outside 0 0 (byte s 7)
+    || ltb 16 (columns (j .ends) (j .kinds)) || outside 0 0 (byte s 7)
 
 -- ---- 3: a part is not where it may be
 
@@ -98,15 +98,19 @@ cellWrongAt s from worlds results i = cellWrongIn worlds results (byte s (from +
 abbrev pub cellWrong : List ℕ → Job → Bool
 cellWrong s j = some-below (cellCount j) (cellWrongAt s (j .cells .offset) (j .worlds) (j .results))
 
--- ---- 7: an action that moves on is legal at the line's end
+-- ---- 7: an action that moves on is legal at some kind of line's end
 
--- The action a is legal in column 0 in the world state w.
+-- The action a is legal at the end e in the world state w.
+abbrev pub legalAt : List ℕ → Job → ℕ → ℕ → ℕ → Bool
+legalAt s j a e w = differs (byte s (resultPlace j a (worldState w) e)) 255
+
+-- It is legal at the end e in some world state.
 abbrev pub legalAtEnd : List ℕ → Job → ℕ → ℕ → Bool
-legalAtEnd s j a w = differs (byte s (resultPlace j a (worldState w) 0)) 255
+legalAtEnd s j a e = some-below (j .worlds) (legalAt s j a e)
 
--- The action a moves on, and is legal in column 0 in some world state.
+-- The action a moves on, and is legal at some end.
 abbrev pub movesOnAtEnd : List ℕ → Job → ℕ → Bool
-movesOnAtEnd s j a = eqb (byte s (markPlace j a)) 1 && some-below (j .worlds) (legalAtEnd s j a)
+movesOnAtEnd s j a = eqb (byte s (markPlace j a)) 1 && some-below (j .ends + 1) (legalAtEnd s j a)
 
 abbrev pub endWrong : List ℕ → Job → Bool
 endWrong s j = some-below (j .actions) (movesOnAtEnd s j)

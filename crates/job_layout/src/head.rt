@@ -39,6 +39,7 @@ pub fn read_head(file: &[u8]) -> Job
         results: file[3],
         states: file[4],
         first: ProgramState(file[5]),
+        ends: file[6],
         marks: read_part(file, 8),
         cells: read_part(file, 12),
         starts: read_part(file, 16),

@@ -10,8 +10,9 @@ pub struct Part {
     pub length: u16,
 }
 
-// What the reader answers for a file that is not refused: bytes 0 to 5, which are A, W, C, R, S and the first program state, and
-// the offset and length of each part.
+// What the reader answers for a file that is not refused: bytes 0 to 6, which are A, W, C, R, S, the first program state and E less
+// one, and the offset and length of each part. The program states are 0 to `states`, the kinds of lamps 1 to `kinds`, and the kinds of
+// ends 0 to `ends`.
 pub struct Job {
     pub actions: u8,
     pub worlds: u8,
@@ -19,6 +20,7 @@ pub struct Job {
     pub results: u8,
     pub states: u8,
     pub first: ProgramState,
+    pub ends: u8,
     pub marks: Part,
     pub cells: Part,
     pub starts: Part,

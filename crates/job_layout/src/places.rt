@@ -1,30 +1,40 @@
 // How many entries the tables of a job have, and the place of each entry in the file.
 ghost use mathlib.Core.Path.{_≡_};
-ghost use Rattle.lamp_line.specs.Tables.{columns};
+ghost use Prim.Native.Nat.{_≤_};
+ghost use Rattle.lamp_line.specs.Tables.{lampColumn, columns};
 ghost use Rattle.job_layout.specs.Layout.{cellCount, goalLength, planLength, markPlace, nextPlace, startPlace, goalPlace, actionPlace};
 use crate::Job;
 use lamp_line::ProgramState;
 use lamp_line::WorldState;
 
-// How many columns the tables have: one for the line's end and one for each kind.
-pub fn column_count(kinds: u8) -> u16
-    ensures { λ r. ⌜ r ≡ columns kinds ⌝ }
+// How many columns the tables have: one for each kind of end and one for each kind of lamp.
+pub fn column_count(job: Job) -> u16
+    ensures { λ r. ⌜ r ≡ columns (job .ends) (job .kinds) ⌝ }
 {
-    kinds as u16 + 1
+    job.ends as u16 + 1 + job.kinds as u16
+}
+
+// The column of a lamp, after those of the ends. For the crates above and not for users: it asks for a column that fits a byte, as that of
+// every kind of a job does that is not refused.
+pub fn lamp_column(job: Job, kind: u8) -> u8
+    requires { ⌜ lampColumn (job .ends) kind ≤ 255 ⌝ }
+    ensures { λ r. ⌜ r ≡ lampColumn (job .ends) kind ⌝ }
+{
+    job.ends + kind
 }
 
 // How many cells the job has.
 pub fn cell_count(job: Job) -> u32
     ensures { λ r. ⌜ r ≡ cellCount job ⌝ }
 {
-    job.actions as u32 * job.worlds as u32 * column_count(job.kinds) as u32
+    job.actions as u32 * job.worlds as u32 * column_count(job) as u32
 }
 
 // How many goal cells the job has.
 pub fn goal_count(job: Job) -> usize
     ensures { λ r. ⌜ r ≡ goalLength job ⌝ }
 {
-    job.worlds as usize * column_count(job.kinds) as usize
+    job.worlds as usize * column_count(job) as usize
 }
 
 // How many bytes the plan has.
@@ -45,7 +55,7 @@ pub fn next_place(job: Job, action: u8, world: WorldState, column: u8) -> usize
     ensures { λ r. ⌜ r ≡ nextPlace job action world column ⌝ }
 {
     let row = action as usize * job.worlds as usize + world.row(1);
-    job.cells.offset as usize + 2 * (row * column_count(job.kinds) as usize + column as usize)
+    job.cells.offset as usize + 2 * (row * column_count(job) as usize + column as usize)
 }
 
 pub fn start_place(job: Job, world: WorldState) -> usize
@@ -57,7 +67,7 @@ pub fn start_place(job: Job, world: WorldState) -> usize
 pub fn goal_place(job: Job, world: WorldState, column: u8) -> usize
     ensures { λ r. ⌜ r ≡ goalPlace job world column ⌝ }
 {
-    job.goal.offset as usize + (world.row(column_count(job.kinds)) + column as usize)
+    job.goal.offset as usize + (world.row(column_count(job)) + column as usize)
 }
 
 // Where the plan has the action of a program state; its targets follow, in the order of the results.

@@ -35,7 +35,7 @@ module _ (s : List ℕ) {j : Job} (opened : Opened s j) {at : ℕ} where
 
   module _
       (a : Action) (w : WorldState) (c : ℕ) (e : at ≡ nextPlace j a w c) (a< : a < j .actions) (w< : w .0 < j .worlds)
-      (c< : c < columns (j .kinds)) where
+      (c< : c < columns (j .ends) (j .kinds)) where
     cell-is : outcomes (byte s at) (byte s (at + 1)) ≡ tablesOf s .cell a w c
     cell-is =
         rw e
@@ -53,7 +53,7 @@ module _ (s : List ℕ) {j : Job} (opened : Opened s j) {at : ℕ} where
 
   -- A cell of the goal.
   pub goal-is :
-      (w : WorldState) (c : ℕ) → at ≡ goalPlace j w c → w .0 < j .worlds → c < columns (j .kinds) →
+      (w : WorldState) (c : ℕ) → at ≡ goalPlace j w c → w .0 < j .worlds → c < columns (j .ends) (j .kinds) →
       eqb (byte s at) 1 ≡ tablesOf s .goal w c
   goal-is w c e w< c< =
       rw e

@@ -2,12 +2,12 @@
 use mathlib.Core.Path.{_≡_, refl, sym, ap, subst}
 use mathlib.Core.Logic.{inl}
 use mathlib.Core.List.{List, [], _∷_}
-use Prim.Native.Nat.{ℕ, _<_}
+use Prim.Native.Nat.{ℕ, _≤_, _<_}
 use Rattle.plans.specs.Plan.{Action, Result}
 use Rattle.lamp_line.specs.declared.ProgramState.{ProgramState}
 use Rattle.lamp_line.specs.declared.WorldState.{WorldState}
 use Rattle.lamp_line.specs.Lists.{_∈_}
-use Rattle.lamp_line.specs.Tables.{Outcome, outcome}
+use Rattle.lamp_line.specs.Tables.{Outcome, outcome, columns}
 use Rattle.lamp_line.specs.inner.WellFormed.{WellFormed}
 use Rattle.job_layout.specs.declared.Job.{Job}
 use Rattle.job_layout.specs.JobTables.{tablesOf}
@@ -41,11 +41,18 @@ module _ (s : List ℕ) (j : Job) (opened : Opened s j) where
   pub kinds-are : j .kinds ≡ tablesOf s .kinds
   kinds-are = ap (λ (h : Job). h .kinds) (sound s j opened .is-head)
 
+  pub ends-are : j .ends ≡ tablesOf s .ends
+  ends-are = ap (λ (h : Job). h .ends) (sound s j opened .is-head)
+
   pub results-are : j .results ≡ tablesOf s .results
   results-are = ap (λ (h : Job). h .results) (sound s j opened .is-head)
 
   pub first-is : j .first ≡ tablesOf s .first
   first-is = ap (λ (h : Job). h .first) (sound s j opened .is-head)
+
+  -- There are at most sixteen columns.
+  pub columns-few : columns (j .ends) (j .kinds) ≤ 16
+  columns-few = laid-out s j opened .columns-range
 
   -- The tables are well formed.
   pub well-formed : WellFormed (tablesOf s)

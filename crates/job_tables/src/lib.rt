@@ -52,7 +52,7 @@ pub fn read_cell_bytes(
     world: WorldState,
     column: u8,
 ) -> CellBytes
-    requires { ⌜ Opened (now file) job × (action < job .actions) × (world .0 < job .worlds) × (column < columns (job .kinds)) ⌝ }
+    requires { ⌜ Opened (now file) job × (action < job .actions) × (world .0 < job .worlds) × (column < columns (job .ends) (job .kinds)) ⌝ }
     ensures { λ r. ⌜ BytesOf (tablesOf (now (file .entry)) .cell action world column) (job .worlds) r ⌝ }
 {
     let at = next_place(job, action, world, column);
@@ -64,7 +64,7 @@ pub fn read_cell_bytes(
 
 // The cell of an action in a world state, at a column.
 pub fn read_cell(file: &[u8], job: Job, action: u8, world: WorldState, column: u8) -> Cell
-    requires { ⌜ Opened (now file) job × (action < job .actions) × (world .0 < job .worlds) × (column < columns (job .kinds)) ⌝ }
+    requires { ⌜ Opened (now file) job × (action < job .actions) × (world .0 < job .worlds) × (column < columns (job .ends) (job .kinds)) ⌝ }
     ensures { λ r. ⌜ outcomesOf r ≡ tablesOf (now (file .entry)) .cell action world column ⌝ }
 {
     let bytes = read_cell_bytes(file, job, action, world, column);
@@ -90,7 +90,7 @@ pub fn is_start(file: &[u8], job: Job, world: WorldState) -> bool
 
 // The goal is true in a world state, at a column.
 pub fn is_goal(file: &[u8], job: Job, world: WorldState, column: u8) -> bool
-    requires { ⌜ Opened (now file) job × (world .0 < job .worlds) × (column < columns (job .kinds)) ⌝ }
+    requires { ⌜ Opened (now file) job × (world .0 < job .worlds) × (column < columns (job .ends) (job .kinds)) ⌝ }
     ensures { λ r. ⌜ r ≡ tablesOf (now (file .entry)) .goal world column ⌝ }
 {
     let at = goal_place(job, world, column);

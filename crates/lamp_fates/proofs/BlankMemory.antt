@@ -34,5 +34,4 @@ pairs-most {t} wf =
 
 -- There are at most 16 columns, each with an entry for every pair.
 pub entries-most : {t : Tables} → WellFormed t → memorySize t ≤ 66560
-unfolding columns
-entries-most {t} wf = product-le 16 4160 (columns (t .kinds)) (pairs t) (omega (arith, wf .kinds-range .1)) (pairs-most wf)
+entries-most {t} wf = product-le 16 4160 (columns (t .ends) (t .kinds)) (pairs t) (wf .columns-range) (pairs-most wf)

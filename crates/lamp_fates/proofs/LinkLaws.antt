@@ -32,7 +32,7 @@ module _ {t : Tables} {first : Pair} {column : ℕ} (asked : Asked t first colum
       (i : ℕ) {p : Pair} → After t first column i p → fateEntry (lampWalk t p column) ≡ fateEntry (lampWalk t first column)
   same-fate i {p} after =
       sym (entry-uncounted (lampWalk t p column))
-      ∙ told (stays-fate t (asked .well-formed) column i first p (asked .in-range) after)
+      ∙ told (stays-fate t (asked .well-formed) column (asked .column-in) i first p (asked .in-range) after)
 
   -- The same number of actions leads to the same pair.
   one-pair : {i k : ℕ} {p q : Pair} → After t first column i q → After t first column k p → i ≡ k → q ≡ p

@@ -56,7 +56,7 @@ unknown memory = tally (λ v. eqb v 0) memory
 module _ {s : List ℕ} {j : Job} {first : Pair} {column : ℕ} where
   -- The walk begins.
   pub leaving-starts :
-      {memory : List ℕ} → Opened s j → Memory (tablesBy s j) memory → InRange (tablesBy s j) first → column < columns (j .kinds) →
+      {memory : List ℕ} → Opened s j → Memory (tablesBy s j) memory → InRange (tablesBy s j) first → column < columns (j .ends) (j .kinds) →
       LeavingLinks s j first column memory memory first
   leaving-starts opened known in-range column-in =
       record {
@@ -98,7 +98,7 @@ module _ {s : List ℕ} {j : Job} {first : Pair} {column : ℕ} where
       -- It ends the run.
       pub walked-ends : {r : ℕ} {x : Ending} → step ≡ move.Ends x → r ≡ fateEntry (ended x 0) → WalkedTo t first column r memory
       walked-ends {x = x} is e =
-          walked (e ∙ told asked (ends-fate t (asked .well-formed) column (walk .actions + 1) first x (asked .in-range) (leads-on is)))
+          walked (e ∙ told asked (ends-fate t (asked .well-formed) column (asked .column-in) (walk .actions + 1) first x (asked .in-range) (leads-on is)))
 
       module _ {q : ProgramState} {w : WorldState} where
         -- It passes the lamp.
@@ -106,7 +106,7 @@ module _ {s : List ℕ} {j : Job} {first : Pair} {column : ℕ} where
         walked-passes is e =
             walked (ap (_+_ 16) e
             ∙ told asked
-            (passes-fate t (asked .well-formed) column (walk .actions + 1) first (pair q w) (asked .in-range) (leads-on is)))
+            (passes-fate t (asked .well-formed) column (asked .column-in) (walk .actions + 1) first (pair q w) (asked .in-range) (leads-on is)))
 
         -- It stays.
         module _ (is : step ≡ move.Stays q w) where
@@ -133,7 +133,7 @@ module _ {s : List ℕ} {j : Job} {first : Pair} {column : ℕ} where
               stretch-more t column (walk .actions + 1) first (pair q w) (ends (judged t w column)) (leads-on is)
               (act-final t (pair q w) column (eq-eqb _ _ final)) in
               walked (e ∙ ap (λ (y : Ending). fateEntry (ended y 0)) (judges ∙ goal)
-              ∙ told asked (ends-fate t (asked .well-formed) column (walk .actions + 1 + 1) first _ (asked .in-range) end))
+              ∙ told asked (ends-fate t (asked .well-formed) column (asked .column-in) (walk .actions + 1 + 1) first _ (asked .in-range) end))
 
     -- ---- the entry of the pair
 
@@ -177,7 +177,7 @@ module _ {s : List ℕ} {j : Job} {first : Pair} {column : ℕ} where
           by (inl (inr right)) link = absurd (omega (arith, fate-below t (asked .well-formed) p column))
           by (inr way) link =
               told asked
-              (circle-fate t (asked .well-formed) column (way .actions) (walk .actions) first p (asked .in-range)
+              (circle-fate t (asked .well-formed) column (asked .column-in) (way .actions) (walk .actions) first p (asked .in-range)
               (way .before) (way .after) (walk .after))
 
       -- The entry is unknown, and a link is left.

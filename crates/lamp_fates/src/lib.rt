@@ -109,7 +109,7 @@ fn walk_to_fate(
     column: u8,
 ) -> u16
     requires { ⌜ Opened (now file) job × Memory (tablesBy (now file) job) (now memory)
-        × InRange (tablesBy (now file) job) (pair state world) × (column < columns (job .kinds)) ⌝ }
+        × InRange (tablesBy (now file) job) (pair state world) × (column < columns (job .ends) (job .kinds)) ⌝ }
     ensures { λ r. ⌜ WalkedTo (tablesBy (now (file .entry)) job) (pair state world) column r (now (memory .exit)) ⌝ }
 {
     let mut q = state;
@@ -177,7 +177,7 @@ pub fn fate_at(
     column: u8,
 ) -> Fate
     requires { ⌜ Opened (now file) job × Memory (tablesBy (now file) job) (now memory)
-        × InRange (tablesBy (now file) job) (pair state world) × (column < columns (job .kinds)) ⌝ }
+        × InRange (tablesBy (now file) job) (pair state world) × (column < columns (job .ends) (job .kinds)) ⌝ }
     ensures { λ r. ⌜ LookedUp (tablesBy (now (file .entry)) job) (pair state world) column r (now (memory .exit)) ⌝ }
 {
     let entry = walk_to_fate(file, job, memory, state, world, column);

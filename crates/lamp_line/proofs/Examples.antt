@@ -1,6 +1,6 @@
 -- Examples of runs on small tables, each computed from the definition. They distinguish it from similar ones that would be wrong: a
 -- counter that does not start again at each lamp, failure 3 tested before state S or by the program state alone, a goal judged
--- without its column.
+-- without its column, a lamp whose column is its kind where there are several kinds of ends.
 use mathlib.Core.Path.{_≡_, refl}
 use mathlib.Core.Bool.{Bool, true, cond}
 use mathlib.Core.Option.{Option, none, some}
@@ -12,13 +12,14 @@ use Rattle.lamp_line.specs.declared.ProgramState.{ProgramState}
 use Rattle.lamp_line.specs.declared.WorldState.{WorldState}
 use Rattle.lamp_line.specs.declared.FailureKind.the-variants.{NoBranch, Circles, GoalFalse}
 use Rattle.lamp_line.specs.declared.Ending.the-variants.{Goal, Failure}
-use Rattle.lamp_line.specs.Tables.{Outcome, outcome, Tables, programState, worldState, lampColumn}
+use Rattle.lamp_line.specs.Tables.{Outcome, outcome, Tables, programState, worldState, lineOf, lampColumn}
 use Rattle.lamp_line.specs.Run.{Run, ran, within, stopped, ownSteps, act, walk, along, run, limited}
 
--- Two actions, of which action 1 moves on; one kind, two results; start 0, first state 0.
+-- Two actions, of which action 1 moves on; one kind of lamp, two results; start 0, first state 0. The first number is that of the
+-- highest kind of end.
 abbrev small :
-    ℕ → ℕ → (Action → WorldState → ℕ → List Outcome) → (WorldState → ℕ → Bool) → (ProgramState → Result → Option ProgramState) → Tables
-small worlds states cell goal target =
+    ℕ → ℕ → ℕ → (Action → WorldState → ℕ → List Outcome) → (WorldState → ℕ → Bool) → (ProgramState → Result → Option ProgramState) → Tables
+small ends worlds states cell goal target =
     record {
       actions = 2;
       worlds = worlds;
@@ -26,6 +27,7 @@ small worlds states cell goal target =
       results = 2;
       states = states;
       first = programState 0;
+      ends = ends;
       mark = λ a. a;
       cell = cell;
       start = λ w. eqb (w .0) 0;
@@ -34,49 +36,60 @@ small worlds states cell goal target =
       target = target;
     }
 
--- The run of a line with these lamps from start 0.
+-- The run of a line with this end and these lamps from start 0.
+abbrev runTo : Tables → ℕ → List ℕ → Run
+runTo t end lamps = run t (worldState 0) (lineOf end lamps)
+
+-- The run of a line with these lamps and the end kind 0.
 abbrev runOn : Tables → List ℕ → Run
-runOn t lamps = run t (worldState 0) (record { lamps = lamps; end = 0 })
+runOn t lamps = runTo t 0 lamps
 
 -- State 0 goes to the final state by one action. S·W is 1, so this step is also the last that may be counted.
 abbrev one-step : Tables
-one-step = small 1 1 (λ a w c. outcome w 0 ∷ []) (λ w c. true) (λ q r. some (programState 1))
+one-step = small 0 1 1 (λ a w c. outcome w 0 ∷ []) (λ w c. true) (λ q r. some (programState 1))
 
 -- The first state is final, and the goal is true at a lamp only.
 abbrev at-once : Tables
-at-once = small 1 0 (λ a w c. []) (λ w c. eqb c 1) (λ q r. none)
+at-once = small 0 1 0 (λ a w c. []) (λ w c. eqb c 1) (λ q r. none)
+
+-- The first state is final, there are two kinds of end, and the goal is true at the end kind 1 only.
+abbrev boxed : Tables
+boxed = small 1 1 0 (λ a w c. []) (λ w c. eqb c 1) (λ q r. none)
 
 -- State 0 goes to the final state by one action, of the 2 that S·W allows. The goal is true at a lamp only.
 abbrev stopping : Tables
-stopping = small 1 2 (λ a w c. outcome w 0 ∷ []) (λ w c. eqb c 1) (λ q r. some (programState 2))
+stopping = small 0 1 2 (λ a w c. outcome w 0 ∷ []) (λ w c. eqb c 1) (λ q r. some (programState 2))
 
 -- State 0 is met in world states 0, 1 and 2, and is left in world state 2.
 abbrev counting : Tables
 counting =
-    small 3 1 (λ a w c. cond (ltb (w .0) 2) (outcome (worldState (w .0 + 1)) 0 ∷ []) (outcome w 1 ∷ []))
+    small 0 3 1 (λ a w c. cond (ltb (w .0) 2) (outcome (worldState (w .0 + 1)) 0 ∷ []) (outcome w 1 ∷ []))
     (λ w c. true)
     (λ q r. cond (eqb r 0) (some (programState 0)) (some (programState 1)))
 
 -- State 0 looks whether there is a lamp, state 1 moves on: two steps for each lamp, and S·W is 2.
 abbrev passing : Tables
 passing =
-    small 1 2 (λ a w c. cond (eqb a 0) (outcome w c ∷ []) (outcome w 0 ∷ []))
+    small 0 1 2 (λ a w c. cond (eqb a 0) (outcome w c ∷ []) (outcome w 0 ∷ []))
     (λ w c. eqb c 0)
     (λ q r. cond (eqb (q .0) 0) (cond (eqb r 0) (some (programState 2)) (some (programState 1))) (some (programState 0)))
 
 -- State 0 goes to itself, and so circles.
 abbrev turning : Tables
-turning = small 1 1 (λ a w c. outcome w 0 ∷ []) (λ w c. true) (λ q r. some (programState 0))
+turning = small 0 1 1 (λ a w c. outcome w 0 ∷ []) (λ w c. true) (λ q r. some (programState 0))
 
 -- State 0 has no branch.
 abbrev branchless : Tables
-branchless = small 1 1 (λ a w c. outcome w 0 ∷ []) (λ w c. true) (λ q r. none)
+branchless = small 0 1 1 (λ a w c. outcome w 0 ∷ []) (λ w c. true) (λ q r. none)
 
--- The runs. `counted-anew` counts 5 steps along two lamps although S·W is 2; the last two give the same run a limit.
+-- The runs. `kind-after-ends` is at a lamp of kind 1, which has column 2. `counted-anew` counts 5 steps along two lamps although S·W is 2; the last two give the same run a limit.
 pub record Examples : Type 0 where
   pub final-before-circling : runOn one-step [] ≡ ran Goal 1
   pub goal-by-column : runOn at-once (1 ∷ 1 ∷ 1 ∷ []) ≡ ran Goal 0
   pub goal-by-column-later : runOn stopping (1 ∷ []) ≡ ran Goal 1
+  pub goal-at-box : runTo boxed 1 [] ≡ ran Goal 0
+  pub no-goal-at-cap : runTo boxed 0 [] ≡ ran (Failure GoalFalse) 0
+  pub kind-after-ends : runTo boxed 1 (1 ∷ []) ≡ ran (Failure GoalFalse) 0
   pub no-goal-at-end : runOn at-once [] ≡ ran (Failure GoalFalse) 0
   pub same-state-other-world : runOn counting [] ≡ ran Goal 3
   pub counted-anew : runOn passing (1 ∷ 1 ∷ []) ≡ ran Goal 5
@@ -93,6 +106,9 @@ examples =
       final-before-circling = refl;
       goal-by-column = refl;
       goal-by-column-later = refl;
+      goal-at-box = refl;
+      no-goal-at-cap = refl;
+      kind-after-ends = refl;
       no-goal-at-end = refl;
       same-state-other-world = refl;
       counted-anew = refl;

@@ -31,10 +31,10 @@ module _ (t : Tables) where
     pub beginning : Beginning t start line
     pub leads : Leads (lampProblem t) (planOf t) (Failure kind) (t .first) (situation start line)
 
-  -- 01, "The check": failing lines are ordered by length, then by start, then by the lamp kinds from the first lamp on. The ranks
-  -- of two lines are compared by ≼.
+  -- 01, "The check", and 02, (c): failing lines are ordered by length, then by start, then by the lamp kinds from the first lamp on,
+  -- and last by the kind of the line's end. The ranks of two lines are compared by ≼.
   unfoldable pub rank : WorldState → Line → List ℕ
-  rank start line = length (line .lamps) ∷ start .0 ∷ line .lamps
+  rank start line = length (line .lamps) ∷ start .0 ∷ (line .lamps ++ (line .end ∷ []))
 
   -- What a failing check names: the line fails from the start with this failure kind, it comes first of all that fail, and it has
   -- at most S·W + 1 lamps.
@@ -61,8 +61,8 @@ module _ (t : Tables) where
     pub execution :
         T* (lampTheory t) (planOf t) labels (t .first) (situation start line) (p .state) (situation (p .world) rest)
 
-  -- What Accepted with a count says: the plan is correct (001, Definition 5) for every marked start and every line of any length,
-  -- and the count is the number of reached pairs.
+  -- What Accepted with a count says: the plan is correct (001, Definition 5) for every marked start and every line of any length and
+  -- any kind of end, and the count is the number of reached pairs.
   pub record Accepts (count : ℕ) : Type 0 where
     pub correct : Correct (lampProblem t) (planOf t)
     pub counted : NumberOf Reached count

@@ -111,7 +111,7 @@ module _ (t : Tables) where
   unfoldable pub along : ℕ → List ℕ → Pair → Run
   along end [] p = atEnd (lampWalk p end)
   along end (kind ∷ lamps) p =
-      elim (lampWalk p (lampColumn t kind)) [
+      elim (lampWalk p (lampColumn (t .ends) kind)) [
         | ended x k ↦ ran x k
         | arrived p′ k ↦ after k (along end lamps p′)
       ]

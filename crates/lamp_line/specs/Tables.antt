@@ -1,5 +1,5 @@
--- Lines and tables (01, "The line and its tables"), and the lamp line as an action theory of 001. The tables are functions here;
--- the crate job_layout defines how the bytes of a job file give them.
+-- Lines and tables (01, "The line and its tables"; 02, (c), for the ends of lines), and the lamp line as an action theory of 001. The
+-- tables are functions here; the crate job_layout defines how the bytes of a job file give them.
 use mathlib.Core.Path.{_≡_}
 use mathlib.Core.Bool.{Bool, true, cond}
 use mathlib.Core.Option.{Option}
@@ -24,7 +24,8 @@ worldState n = record { 0 = n }
 pub data Outcome : Type 0 where
   outcome : WorldState → Result → Outcome
 
--- The numbers A, W, C, R and S and the first program state, then the five parts of a job file: marks, cells, starts, goal, plan.
+-- The numbers A, W, C, R and S, the first program state and the number E less one, then the five parts of a job file: marks, cells,
+-- starts, goal, plan.
 pub record Tables : Type 0 where
   pub actions : ℕ
   pub worlds : ℕ
@@ -32,6 +33,8 @@ pub record Tables : Type 0 where
   pub results : ℕ
   pub states : ℕ
   pub first : ProgramState
+  -- 02, (c): the highest kind of line's end, so that the kinds of ends are 0 to this number.
+  pub ends : ℕ
   pub mark : Action → ℕ
   -- For an action, a world state and a column: the list is empty where the action is not legal. A legal cell of 01 has one outcome.
   pub cell : Action → WorldState → ℕ → List Outcome
@@ -52,35 +55,35 @@ movesOn t a = eqb (t .mark a) 1
 
 -- ---- lines and columns
 
--- The kinds of the lamps that are left, beginning with the lamp at which the cabinet is, and the column of the line's end.
+-- The kinds of the lamps that are left, beginning with the lamp at which the cabinet is, and the kind of the line's end.
 pub record Line : Type 0 where
   pub lamps : List ℕ
   pub end : ℕ
 
--- The line with these lamps. Its end has column 0, as every line's end has in 01.
-abbrev pub lampLine : List ℕ → Line
-lampLine lamps = record { lamps = lamps; end = 0 }
+-- The line with this end and these lamps.
+abbrev pub lineOf : ℕ → List ℕ → Line
+lineOf end lamps = record { lamps = lamps; end = end }
 
--- How many kinds of line's end there are; their columns are those below this number. In 01, "The line and its tables", it is one.
+-- 02, (c): the number E of kinds of line's end. Their columns are 0 to E - 1, each the number of its kind.
 unfoldable pub endKinds : Tables → ℕ
-endKinds t = 1
+endKinds t = t .ends + 1
 
--- The column of a lamp is its kind.
-unfoldable pub lampColumn : Tables → ℕ → ℕ
-lampColumn t kind = kind
+-- 02, (c): the column of a lamp of the kind k is E - 1 + k, where the kinds of ends are 0 to `ends`.
+unfoldable pub lampColumn : ℕ → ℕ → ℕ
+lampColumn ends kind = ends + kind
 
--- How many columns the tables for this many kinds have: one for the line's end, and one for each kind.
-unfoldable pub columns : ℕ → ℕ
-columns kinds = kinds + 1
+-- 02, (c): there are E + C columns, one for each kind of end and then one for each kind of lamp.
+unfoldable pub columns : ℕ → ℕ → ℕ
+columns ends kinds = ends + 1 + kinds
 
--- The column of the first of these lamps, or of the line's end if there is none.
-abbrev columnOf : Tables → ℕ → List ℕ → ℕ
-columnOf t end [] = end
-columnOf t end (kind ∷ lamps) = lampColumn t kind
+-- The column of the first of these lamps, or of the line's end if there is none, where the kinds of ends are 0 to `ends`.
+abbrev pub columnOf : ℕ → ℕ → List ℕ → ℕ
+columnOf ends end [] = end
+columnOf ends end (kind ∷ lamps) = lampColumn ends kind
 
 -- 01, "The line and its tables": the present column, which is that of the first lamp left, or of the line's end if there is none.
 abbrev pub column : Tables → Line → ℕ
-column t line = columnOf t (line .end) (line .lamps)
+column t line = columnOf (t .ends) (line .end) (line .lamps)
 
 -- The lamps after the first.
 abbrev lampsAfter : List ℕ → List ℕ
@@ -100,7 +103,7 @@ unfoldable pub Kinds : ℕ → List ℕ → Type 0
 Kinds kinds [] = Unit {0}
 Kinds kinds (kind ∷ lamps) = (1 ≤ kind) × (kind ≤ kinds) × Kinds kinds lamps
 
--- The line is one of the job's lines: it has any number of lamps, each of one of the job's kinds.
+-- The line is one of the job's lines: it has any number of lamps, each of one of the job's kinds, and one of the job's kinds of end.
 pub record Fits (t : Tables) (line : Line) : Type 0 where
   pub of-kinds : Kinds (t .kinds) (line .lamps)
   pub ended : line .end < endKinds t

@@ -39,7 +39,7 @@ module _ {x : Reading} (s : List ℕ) (q : ProgramState) (w : WorldState) (c : �
     walk-by-rules :
         walkAnswer s q w c
         ≡ refusedIf (leb (j .worlds) (w .0)) 14
-        (refusedIf (leb (columns (j .kinds)) c) 15
+        (refusedIf (leb (columns (j .ends) (j .kinds)) c) 15
         (refusedIf (ltb (j .states) (q .0)) 16
         (walkAnswerOf (lampWalk (tablesOf s) (pair q w) c))))
     unfolding walkAnswer
@@ -51,7 +51,7 @@ module _ {x : Reading} (s : List ℕ) (q : ProgramState) (w : WorldState) (c : �
     pub walk-world-refused : j .worlds ≤ w .0 → answer.Refused 14 ≡ walkAnswer s q w c
     walk-world-refused w≥ = sym (walk-by-rules ∙ rw (le-leb _ _ w≥))
 
-    module _ {n : ℕ} (w< : w .0 < j .worlds) (count : n ≡ columns (j .kinds)) where
+    module _ {n : ℕ} (w< : w .0 < j .worlds) (count : n ≡ columns (j .ends) (j .kinds)) where
       -- The column is not below the number n of columns.
       pub walk-column-refused : n ≤ c → answer.Refused 15 ≡ walkAnswer s q w c
       walk-column-refused c≥ = sym (walk-by-rules ∙ rw (lt-leb _ _ w<, sym count, le-leb _ _ c≥))

@@ -17,7 +17,7 @@ use Rattle.lamp_walk.specs.declared.WalkAnswer.the-variants as answer
 abbrev pub walkRules : List ℕ → ProgramState → WorldState → ℕ → List Rule
 walkRules s q w column =
     fileRules s
-    ++ (14 when leb (tablesOf s .worlds) (w .0)) ∷ (15 when leb (columns (tablesOf s .kinds)) column)
+    ++ (14 when leb (tablesOf s .worlds) (w .0)) ∷ (15 when leb (columns (tablesOf s .ends) (tablesOf s .kinds)) column)
     ∷ (16 when ltb (tablesOf s .states) (q .0)) ∷ []
 
 -- A walk as an answer.

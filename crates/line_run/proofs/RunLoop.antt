@@ -12,28 +12,28 @@ use lib.Seq.{take-all}
 use Rattle.lamp_line.specs.declared.ProgramState.{ProgramState}
 use Rattle.lamp_line.specs.declared.WorldState.{WorldState}
 use Rattle.lamp_line.specs.declared.Ending.{Ending}
-use Rattle.lamp_line.specs.Tables.{Kinds, column, columns, lampColumn, endKinds}
+use Rattle.lamp_line.specs.Tables.{Tables, Line, lineOf, endKinds, lampColumn, columns, columnOf, column, Kinds, Fits}
 use Rattle.lamp_line.specs.Refusals.{some-of}
 use Rattle.lamp_line.specs.Run.{Pair, pair, arrived, ran, lampWalk, along, run, limited}
 use Rattle.run_laws.specs.inner.Pairs.{InRange}
+use Rattle.run_laws.proofs.Columns.{column-is-below}
 use Rattle.run_laws.proofs.Walks.{arrived-in-range, arrived-at-lamp}
 use Rattle.run_laws.proofs.LoopLaws.{RunOwes, run-owes-start, run-owes-passes, run-owes-ends, run-owes-stopped}
 use Rattle.job_layout.specs.declared.Job.{Job}
 use Rattle.job_layout.specs.JobTables.{tablesBy, tablesOf}
 use Rattle.job_layout.specs.Rules.{outside}
+use Rattle.job_layout.proofs.Bounds.{lamp-column-in}
 use Rattle.head_rules.proofs.HeadLaws.{neither}
 use Rattle.job_file.specs.Reading.{Opened}
 use Rattle.line_run.specs.RunAnswers.{lineWrong}
 use Rattle.job_file.proofs.WellFormed.{tables-are, well-formed-by}
-use Rattle.job_tables.proofs.Ranges.{worlds-are, first-is, well-formed}
+use Rattle.job_tables.proofs.Ranges.{worlds-are, ends-are, first-is, well-formed}
 use Rattle.lamp_walk.specs.declared.Walked.{Walked}
 use Rattle.lamp_walk.specs.declared.Walked.the-variants as walked
 use Rattle.lamp_walk.specs.inner.Walking.{walkOf}
 use Rattle.line_run.specs.declared.RunAnswer.{RunAnswer}
 use Rattle.line_run.specs.declared.RunAnswer.the-variants as answer
 use Rattle.line_run.specs.RunAnswers.{runAnswerOf}
-use Rattle.lamp_line.specs.Tables.{lampLine}
-use Rattle.line_run.specs.inner.Columns.{BeginsAtColumn}
 
 -- ---- lines of a job
 
@@ -46,9 +46,20 @@ right-kinds kinds (kind ∷ lamps) e =
     let bounds = neither (ltb kind 1) (ltb kinds kind) (both .0) in
     (ltb-false _ _ (bounds .0), ltb-false _ _ (bounds .1), right-kinds kinds lamps (both .1))
 
--- A line to which rule 15 does not apply is of the job's kinds.
-pub line-right : (kinds : ℕ) (lamps : List ℕ) → lineWrong kinds lamps ≡ false → Kinds kinds lamps
-line-right kinds lamps e = right-kinds kinds lamps (neither (ltb 65535 (length lamps)) _ e .1)
+-- A line to which rule 15 does not apply is one of the job's lines.
+pub line-right : (t : Tables) (line : Line) → lineWrong (t .kinds) (t .ends) line ≡ false → Fits t line
+unfolding endKinds
+line-right t line e =
+    let to-end = neither _ (ltb (t .ends) (line .end)) e in
+    let to-kinds = neither (ltb 65535 (length (line .lamps))) _ (to-end .0) in
+    record {
+      of-kinds = right-kinds (t .kinds) (line .lamps) (to-kinds .1);
+      ended = omega (arith, ltb-false (t .ends) (line .end) (to-end .1));
+    }
+
+-- It has at most 65,535 lamps.
+pub line-few : (t : Tables) (line : Line) → lineWrong (t .kinds) (t .ends) line ≡ false → length (line .lamps) ≤ 65535
+line-few t line e = ltb-false _ _ (neither (ltb 65535 (length (line .lamps))) _ (neither _ _ e .0) .0)
 
 -- The converse: in a line of these kinds no lamp has a kind outside 1 to `kinds`.
 none-outside : (kinds : ℕ) (lamps : List ℕ) → Kinds kinds lamps → some-of lamps (outside 1 kinds) ≡ false
@@ -58,8 +69,15 @@ none-outside kinds (kind ∷ lamps) (low, high, rest) =
     rw (le-ltb kind 1 low, le-ltb kinds kind high) (none-outside kinds lamps rest)
 
 -- Rule 15 does not apply to a line of the job that is not too long.
-pub line-not-wrong : (kinds : ℕ) (lamps : List ℕ) → length lamps ≤ 65535 → Kinds kinds lamps → lineWrong kinds lamps ≡ false
-line-not-wrong kinds lamps few k = rw (le-ltb 65535 (length lamps) few) (none-outside kinds lamps k)
+pub line-not-wrong :
+    (t : Tables) (line : Line) → length (line .lamps) ≤ 65535 → Fits t line → lineWrong (t .kinds) (t .ends) line ≡ false
+unfolding endKinds
+line-not-wrong t line few fits =
+    rw (
+      le-ltb 65535 (length (line .lamps)) few,
+      none-outside (t .kinds) (line .lamps) (fits .of-kinds),
+      le-ltb (t .ends) (line .end) (omega (arith, fits .ended)),
+    )
 
 -- The lamps after the first are of these kinds too.
 kinds-after : (kinds : ℕ) (lamps : List ℕ) → Kinds kinds lamps → Kinds kinds (drop 1 lamps)
@@ -77,37 +95,40 @@ rest-shorter lamps some = rw (part-after lamps) (omega (arith, length-drop 1 lam
 
 -- ---- the column of a line
 
--- At the line's end the column is 0.
-pub column-at-end : (lamps : List ℕ) → length lamps ≡ 0 → BeginsAtColumn 0 lamps
-column-at-end [] e t = refl
-column-at-end (kind ∷ lamps) e t = absurd (omega arith)
+-- At the line's end the column is the end's.
+pub column-at-end : (ends end : ℕ) (lamps : List ℕ) → length lamps ≡ 0 → end ≡ columnOf ends end lamps
+column-at-end ends end [] e = refl
+column-at-end ends end (kind ∷ lamps) e = absurd (omega arith)
 
--- At a lamp the column is the lamp's kind.
-pub column-at-lamp : (lamps : List ℕ) → ¬ (length lamps ≡ 0) → BeginsAtColumn (getD lamps 0 0) lamps
-unfolding lampColumn
-column-at-lamp [] e t = absurd (e refl)
-column-at-lamp (kind ∷ lamps) e t = refl
+-- At a lamp the column is the lamp's.
+pub column-at-lamp :
+    (ends end : ℕ) (lamps : List ℕ) {c : ℕ} → ¬ (length lamps ≡ 0) → c ≡ lampColumn ends (getD lamps 0 0) → c ≡ columnOf ends end lamps
+column-at-lamp ends end [] e is = absurd (e refl)
+column-at-lamp ends end (kind ∷ lamps) e is = is
 
--- The column of a line of the job is one of its columns.
-pub column-in : (s : List ℕ) (kinds c : ℕ) (lamps : List ℕ) → BeginsAtColumn c lamps → Kinds kinds lamps → c < columns kinds
-unfolding columns lampColumn Kinds
-column-in s kinds c [] is k = omega (arith, is (tablesOf s))
-column-in s kinds c (kind ∷ lamps) is k = omega (arith, is (tablesOf s), k .1)
+-- It is one of the columns, of which there are few.
+pub lamp-column-small :
+    (ends kinds : ℕ) (lamps : List ℕ) → ¬ (length lamps ≡ 0) → Kinds kinds lamps → columns ends kinds ≤ 16 →
+    lampColumn ends (getD lamps 0 0) ≤ 255
+unfolding Kinds
+lamp-column-small ends kinds [] e k few = absurd (e refl)
+lamp-column-small ends kinds (kind ∷ lamps) e k few = omega (arith, lamp-column-in ends kinds kind (k .1))
 
 -- ---- the loop
 
--- The loop for the run along lamps₀ from p₀ has counted k steps and is at p, with the lamps `rest` left.
-pub record Running (s : List ℕ) (j : Job) (limit : ℕ) (lamps₀ : List ℕ) (p₀ : Pair) (k : ℕ) (rest : List ℕ) (p : Pair) : Type 0 where
+-- The loop for the run from p₀ along the line with lamps₀ and this end has counted k steps and is at p, with the lamps `rest` left.
+pub record Running
+    (s : List ℕ) (j : Job) (limit end : ℕ) (lamps₀ : List ℕ) (p₀ : Pair) (k : ℕ) (rest : List ℕ) (p : Pair) : Type 0 where
   pub within : k ≤ limit
   pub in-range : InRange (tablesBy s j) p
-  pub kinds : Kinds (j .kinds) rest
-  pub owes : RunOwes (tablesOf s) 0 lamps₀ p₀ k rest p
+  pub fits : Fits (tablesBy s j) (lineOf end rest)
+  pub owes : RunOwes (tablesOf s) end lamps₀ p₀ k rest p
 
-module _ {s : List ℕ} {j : Job} {limit : ℕ} {lamps₀ : List ℕ} {start : WorldState} (opened : Opened s j) where
+module _ {s : List ℕ} {j : Job} {limit end : ℕ} {lamps₀ : List ℕ} {start : WorldState} (opened : Opened s j) where
   -- The loop begins at the first program state.
-  pub running-start : tablesOf s .start start ≡ true → Kinds (j .kinds) lamps₀ →
-      Running s j limit lamps₀ (pair (j .first) start) 0 lamps₀ (pair (j .first) start)
-  running-start marked kinds =
+  pub running-start : tablesOf s .start start ≡ true → Fits (tablesBy s j) (lineOf end lamps₀) →
+      Running s j limit end lamps₀ (pair (j .first) start) 0 lamps₀ (pair (j .first) start)
+  running-start marked fits =
       record {
         within = omega arith;
         in-range =
@@ -115,63 +136,74 @@ module _ {s : List ℕ} {j : Job} {limit : ℕ} {lamps₀ : List ℕ} {start : W
               state-range = well-formed-by s j opened .first-range;
               world-range = rw (worlds-are s j opened) (well-formed s j opened .start-range start marked);
             };
-        kinds = kinds;
-        owes = run-owes-start (tablesOf s) 0 lamps₀ (pair (j .first) start);
+        fits = fits;
+        owes = run-owes-start (tablesOf s) end lamps₀ (pair (j .first) start);
       }
 
   module _
-      {k : ℕ} {rest : List ℕ} {p : Pair} (running : Running s j limit lamps₀ (pair (j .first) start) k rest p) where
+      {k : ℕ} {rest : List ℕ} {p : Pair} (running : Running s j limit end lamps₀ (pair (j .first) start) k rest p) where
     -- The run that the loop is for.
-    whole-run : along (tablesOf s) 0 lamps₀ (pair (j .first) start) ≡ run (tablesOf s) start (lampLine lamps₀)
-    whole-run = ap (λ q. along (tablesOf s) 0 lamps₀ (pair q start)) (first-is s j opened)
+    whole-run : along (tablesOf s) end lamps₀ (pair (j .first) start) ≡ run (tablesOf s) start (lineOf end lamps₀)
+    whole-run = ap (λ q. along (tablesOf s) end lamps₀ (pair q start)) (first-is s j opened)
+
+    -- The lamps left are of the job's kinds.
+    pub running-kinds : Kinds (j .kinds) rest
+    running-kinds = running .fits .of-kinds
+
+    -- The column at which the line goes on is one of the job's.
+    pub running-column-in : {c : ℕ} → c ≡ columnOf (j .ends) end rest → c < columns (j .ends) (j .kinds)
+    running-column-in is = rw is (column-is-below (tablesBy s j) (running .fits))
 
     -- The walk at the present lamp, or at the line's end.
-    module _ (v : Walked) {c : ℕ} (is-column : BeginsAtColumn c rest) (walks : walkOf v ≡ lampWalk (tablesOf s) p c) where
+    module _ (v : Walked) {c : ℕ} (is : c ≡ columnOf (j .ends) end rest) (walks : walkOf v ≡ lampWalk (tablesOf s) p c) where
+      is-column : c ≡ column (tablesOf s) (lineOf end rest)
+      is-column = is ∙ ap (λ (n : ℕ). columnOf n end rest) (ends-are s j opened)
+
       -- It ends the run.
       pub running-ends :
           {x : Ending} {n : ℕ} {r : RunAnswer} → v ≡ walked.Ended x n → r ≡ runAnswerOf (limited limit (ran x (k + n))) →
-          r ≡ runAnswerOf (limited limit (run (tablesOf s) start (lampLine lamps₀)))
-      running-ends {x} {n} is e =
+          r ≡ runAnswerOf (limited limit (run (tablesOf s) start (lineOf end lamps₀)))
+      running-ends {x} {n} told e =
           e
           ∙ ap (λ r. runAnswerOf (limited limit r))
-          (run-owes-ends (tablesOf s) 0 lamps₀ _ k rest p (running .owes) x n
-          (ap walkOf (sym is) ∙ walks ∙ ap (lampWalk (tablesOf s) p) (is-column (tablesOf s))) ∙ whole-run)
+          (run-owes-ends (tablesOf s) end lamps₀ _ k rest p (running .owes) x n
+          (ap walkOf (sym told) ∙ walks ∙ ap (lampWalk (tablesOf s) p) is-column) ∙ whole-run)
 
       -- It passes the lamp.
-      module _ {q : ProgramState} {w : WorldState} {n : ℕ} (is : v ≡ walked.Arrived q w n) where
+      module _ {q : ProgramState} {w : WorldState} {n : ℕ} (told : v ≡ walked.Arrived q w n) where
         arrives : arrived (pair q w) n ≡ lampWalk (tablesOf s) p c
-        arrives = ap walkOf (sym is) ∙ walks
+        arrives = ap walkOf (sym told) ∙ walks
 
-        at-column : arrived (pair q w) n ≡ lampWalk (tablesOf s) p (column (tablesOf s) (lampLine rest))
-        at-column = arrives ∙ ap (lampWalk (tablesOf s) p) (is-column (tablesOf s))
+        at-column : arrived (pair q w) n ≡ lampWalk (tablesOf s) p (column (tablesOf s) (lineOf end rest))
+        at-column = arrives ∙ ap (lampWalk (tablesOf s) p) is-column
 
         -- There is a lamp to pass.
         pub running-at-lamp : 0 < length rest
         running-at-lamp =
-            arrived-at-lamp (tablesOf s) (well-formed s j opened) _ p (pair q w) (lampLine rest) n (unfold endKinds in omega arith)
-            at-column
+            arrived-at-lamp (tablesOf s) (well-formed s j opened) _ p (pair q w) (lineOf end rest) n
+            (rw (sym (tables-are s j opened)) (running .fits .ended)) at-column
 
-        owes-on : RunOwes (tablesOf s) 0 lamps₀ (pair (j .first) start) (k + n) (drop 1 rest) (pair q w)
-        owes-on = run-owes-passes (tablesOf s) 0 lamps₀ _ k rest p (running .owes) running-at-lamp (pair q w) n at-column
+        owes-on : RunOwes (tablesOf s) end lamps₀ (pair (j .first) start) (k + n) (drop 1 rest) (pair q w)
+        owes-on = run-owes-passes (tablesOf s) end lamps₀ _ k rest p (running .owes) running-at-lamp (pair q w) n at-column
 
         -- The loop goes on after the lamp.
         pub running-passes :
             k + n ≤ limit →
-            Running s j limit lamps₀ (pair (j .first) start) (k + n) (take (length rest - 1) (drop 1 rest)) (pair q w)
+            Running s j limit end lamps₀ (pair (j .first) start) (k + n) (take (length rest - 1) (drop 1 rest)) (pair q w)
         running-passes within =
             rw (part-after rest)
             (record {
               within = within;
               in-range =
                   rw (tables-are s j opened) (arrived-in-range (tablesOf s) (well-formed s j opened) _ p (pair q w) c n arrives);
-              kinds = kinds-after (j .kinds) rest (running .kinds);
+              fits = record { of-kinds = kinds-after (j .kinds) rest (running .fits .of-kinds); ended = running .fits .ended };
               owes = owes-on;
             })
 
         -- More steps are counted than the limit allows: the answer is Stopped.
         pub running-stopped :
-            limit < k + n → answer.Stopped limit ≡ runAnswerOf (limited limit (run (tablesOf s) start (lampLine lamps₀)))
+            limit < k + n → answer.Stopped limit ≡ runAnswerOf (limited limit (run (tablesOf s) start (lineOf end lamps₀)))
         running-stopped beyond =
             ap runAnswerOf
-            (run-owes-stopped (tablesOf s) 0 lamps₀ _ (k + n) (drop 1 rest) (pair q w) owes-on limit beyond
+            (run-owes-stopped (tablesOf s) end lamps₀ _ (k + n) (drop 1 rest) (pair q w) owes-on limit beyond
             ∙ ap (limited limit) whole-run)

@@ -1,2 +1,1 @@
 pub mod RunAnswers
-pub mod inner

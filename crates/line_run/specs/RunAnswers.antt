@@ -1,11 +1,11 @@
--- What the run answers (01, "One run" and "Who can cause which number").
+-- What the run answers (01, "One run" and "Who can cause which number"; 02, (c), for the end kind).
 use mathlib.Core.Bool.{Bool, _||_, not}
 use mathlib.Core.List.{List, [], _∷_, _++_}
 use Prim.Native.Nat.{ℕ}
 use lib.Dec.{leb, ltb}
 use lib.ListN.{length}
 use Rattle.lamp_line.specs.declared.WorldState.{WorldState}
-use Rattle.lamp_line.specs.Tables.{Tables, lampLine}
+use Rattle.lamp_line.specs.Tables.{Tables, Line}
 use Rattle.lamp_line.specs.Refusals.{Rule, _when_, answerBy, some-of}
 use Rattle.lamp_line.specs.Run.{Limited, within, stopped, run, limited}
 use Rattle.job_layout.specs.JobTables.{tablesOf}
@@ -18,21 +18,21 @@ use Rattle.line_run.specs.declared.RunAnswer.the-variants as answer
 abbrev pub startUnmarked : Tables → WorldState → Bool
 startUnmarked t start = leb (t .worlds) (start .0) || not (t .start start)
 
--- 15: the line has more than 65,535 lamps, or a lamp of a kind that the tables do not have.
-abbrev pub lineWrong : ℕ → List ℕ → Bool
-lineWrong kinds lamps = ltb 65535 (length lamps) || some-of lamps (outside 1 kinds)
+-- 15: the line has more than 65,535 lamps, or a lamp or an end of a kind that the tables do not have.
+abbrev pub lineWrong : ℕ → ℕ → Line → Bool
+lineWrong kinds ends line = ltb 65535 (length (line .lamps)) || some-of (line .lamps) (outside 1 kinds) || ltb ends (line .end)
 
 -- The refusals of the run: those of the file, then 14 and 15.
-abbrev pub runRules : List ℕ → WorldState → List ℕ → List Rule
-runRules s start lamps =
-    fileRules s ++ (14 when startUnmarked (tablesOf s) start) ∷ (15 when lineWrong (tablesOf s .kinds) lamps) ∷ []
+abbrev pub runRules : List ℕ → WorldState → Line → List Rule
+runRules s start line =
+    fileRules s ++ (14 when startUnmarked (tablesOf s) start) ∷ (15 when lineWrong (tablesOf s .kinds) (tablesOf s .ends) line) ∷ []
 
 -- A run with a limit as an answer.
 abbrev pub runAnswerOf : Limited → RunAnswer
 runAnswerOf (within x k) = answer.Ended x k
 runAnswerOf (stopped limit) = answer.Stopped limit
 
--- From a start along the lamps of a line, with a limit of steps: the first refusal that applies, or else the run.
-unfoldable pub runAnswer : List ℕ → WorldState → List ℕ → ℕ → RunAnswer
-runAnswer s start lamps limit =
-    answerBy answer.Refused (runRules s start lamps) (runAnswerOf (limited limit (run (tablesOf s) start (lampLine lamps))))
+-- From a start along a line, with a limit of steps: the first refusal that applies, or else the run.
+unfoldable pub runAnswer : List ℕ → WorldState → Line → ℕ → RunAnswer
+runAnswer s start line limit =
+    answerBy answer.Refused (runRules s start line) (runAnswerOf (limited limit (run (tablesOf s) start line)))

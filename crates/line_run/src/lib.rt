@@ -1,20 +1,19 @@
 // The run of one given line (01, "One run"). `run_line` is the operation; it asks nothing of its caller.
 ghost use mathlib.Core.Path.{_≡_};
 ghost use mathlib.Core.Bool.{true};
-ghost use Rattle.lamp_line.specs.Tables.{Kinds};
+ghost use Prim.Native.Nat.{_≤_};
+ghost use Rattle.lamp_line.specs.Tables.{lineOf, columns, columnOf, Kinds, Fits};
 ghost use Rattle.lamp_line.specs.Refusals.{some-of};
 ghost use Rattle.lamp_line.specs.Run.{ran, run, limited};
-ghost use Rattle.job_layout.specs.JobTables.{tablesOf};
+ghost use Rattle.job_layout.specs.JobTables.{tablesBy, tablesOf};
 ghost use Rattle.job_layout.specs.Rules.{outside};
 ghost use Rattle.job_file.specs.Reading.{Opened};
-ghost use Rattle.line_run.specs.RunAnswers.{lineWrong};
-ghost use Rattle.line_run.specs.RunAnswers.{runAnswerOf, runAnswer};
-ghost use Rattle.lamp_line.specs.Tables.{lampLine};
-ghost use Rattle.line_run.specs.inner.Columns.{BeginsAtColumn};
+ghost use Rattle.line_run.specs.RunAnswers.{lineWrong, runAnswerOf, runAnswer};
 use job_file::Reading;
 use job_file::read_job;
 use job_file::refusal_number;
 use job_layout::Job;
+use job_layout::places::lamp_column;
 use job_tables::is_start;
 use lamp_line::Ending;
 use lamp_line::WorldState;
@@ -43,20 +42,21 @@ fn any_outside(line: &[u8], kinds: u8) -> bool
     false
 }
 
-fn line_wrong(line: &[u8], kinds: u8) -> bool
-    ensures { λ r. ⌜ r ≡ lineWrong kinds (now (line .entry)) ⌝ }
+fn line_wrong(line: &[u8], end: u8, job: Job) -> bool
+    ensures { λ r. ⌜ r ≡ lineWrong (job .kinds) (job .ends) (lineOf end (now (line .entry))) ⌝ }
 {
-    (65535 < line.len()) | any_outside(line, kinds)
+    (65535 < line.len()) | any_outside(line, job.kinds) | (job.ends < end)
 }
 
-// The column at which the rest of the line begins: its first lamp's kind, or 0 at the line's end.
-fn column_of(rest: &[u8]) -> u8
-    ensures { λ r. ⌜ BeginsAtColumn r (now (rest .entry)) ⌝ }
+// The column at which the rest of the line begins: that of its first lamp, or of the line's end.
+fn column_of(job: Job, rest: &[u8], end: u8) -> u8
+    requires { ⌜ (columns (job .ends) (job .kinds) ≤ 16) × Kinds (job .kinds) (now rest) ⌝ }
+    ensures { λ r. ⌜ r ≡ columnOf (job .ends) end (now (rest .entry)) ⌝ }
 {
     if rest.len() == 0 {
-        return 0;
+        return end;
     }
-    rest[0]
+    lamp_column(job, rest[0])
 }
 
 // An ending after k counted steps, or Stopped where k is above the limit.
@@ -70,16 +70,24 @@ fn within_limit(ending: Ending, k: u64, limit: u32) -> RunAnswer
 }
 
 // The run in a file that is not refused, along a line of the job. After each lamp it goes on with the part of the line after it.
-fn run_in_job(file: &[u8], job: Job, start: WorldState, line: &[u8], limit: u32) -> RunAnswer
-    requires { ⌜ Opened (now file) job × (tablesOf (now file) .start start ≡ true) × Kinds (job .kinds) (now line) ⌝ }
-    ensures { λ r. ⌜ r ≡ runAnswerOf (limited limit (run (tablesOf (now (file .entry))) start (lampLine (now (line .entry))))) ⌝ }
+fn run_in_job(
+    file: &[u8],
+    job: Job,
+    start: WorldState,
+    line: &[u8],
+    end: u8,
+    limit: u32,
+) -> RunAnswer
+    requires { ⌜ Opened (now file) job × (tablesOf (now file) .start start ≡ true)
+        × Fits (tablesBy (now file) job) (lineOf end (now line)) ⌝ }
+    ensures { λ r. ⌜ r ≡ runAnswerOf (limited limit (run (tablesOf (now (file .entry))) start (lineOf end (now (line .entry))))) ⌝ }
 {
     let mut rest = line;
     let mut q = job.first;
     let mut w = start;
     let mut k: u64 = 0;
     loop {
-        let column = column_of(rest);
+        let column = column_of(job, rest, end);
         let walked = walk_in_job(file, job, q, w, column);
         match walked {
             Walked::Ended(ending, steps) => return within_limit(ending, k + steps as u64, limit),
@@ -96,9 +104,9 @@ fn run_in_job(file: &[u8], job: Job, start: WorldState, line: &[u8], limit: u32)
     }
 }
 
-// The run of a line from a start, for any file, start, line and limit.
-pub fn run_line(file: &[u8], start: WorldState, line: &[u8], limit: u32) -> RunAnswer
-    ensures { λ r. ⌜ r ≡ runAnswer (now (file .entry)) start (now (line .entry)) limit ⌝ }
+// The run from a start along a line with these lamps and this kind of end, for any file, start, lamps, end and limit.
+pub fn run_line(file: &[u8], start: WorldState, line: &[u8], end: u8, limit: u32) -> RunAnswer
+    ensures { λ r. ⌜ r ≡ runAnswer (now (file .entry)) start (lineOf end (now (line .entry))) limit ⌝ }
 {
     let reading = read_job(file);
     let Reading::Job(job) = reading else {
@@ -107,8 +115,8 @@ pub fn run_line(file: &[u8], start: WorldState, line: &[u8], limit: u32) -> RunA
     if !is_start(file, job, start) {
         return RunAnswer::Refused(14);
     }
-    if line_wrong(line, job.kinds) {
+    if line_wrong(line, end, job) {
         return RunAnswer::Refused(15);
     }
-    run_in_job(file, job, start, line, limit)
+    run_in_job(file, job, start, line, end, limit)
 }

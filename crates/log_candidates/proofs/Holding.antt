@@ -14,7 +14,7 @@ use Rattle.lamp_line.specs.Tables.{Tables, worldState, columns, movesOn}
 use Rattle.job_layout.specs.declared.Job.{Job}
 use Rattle.job_layout.specs.JobTables.{tablesOf}
 use Rattle.job_file.specs.Reading.{Opened}
-use Rattle.job_tables.proofs.Ranges.{laid-out, worlds-are, kinds-are, well-formed}
+use Rattle.job_tables.proofs.Ranges.{columns-few, worlds-are, kinds-are, ends-are, well-formed}
 use Rattle.word_bits.proofs.LowestBit.{some-bit}
 use Rattle.word_bits.proofs.WordBits.{none-in-zero}
 use Rattle.log_laws.specs.inner.Candidates.{Candidates, FirstCandidates, NextCandidates}
@@ -53,13 +53,13 @@ pub staying-all :
 staying-all {m = m} {n = n} m≤ ≤m is those = let same : m ≡ n = omega arith in rw same at (those .stayed)
 
 -- Where the candidates are in world states of the job, so are those of each column.
-pub worlds-at : {j : Job} {sets : List ℕ} {c k : ℕ} → WorldsIn j sets → c < k → k ≡ columns (j .kinds) → InWorlds (getD sets c 0) (j .worlds)
+pub worlds-at : {j : Job} {sets : List ℕ} {c k : ℕ} → WorldsIn j sets → c < k → k ≡ columns (j .ends) (j .kinds) → InWorlds (getD sets c 0) (j .worlds)
 worlds-at {c = c} within c< is = record { below = λ w has. within .below w c (record { is-column = omega arith; has = has }) }
 
 -- This is so of a column that the loop has still before it.
 pub staying-worlds :
     {t : Tables} {l : Label} {j : Job} {before after : List ℕ} {c k : ℕ} → Staying t l before after c → WorldsIn j before →
-    c < k → k ≡ columns (j .kinds) → InWorlds (getD after c 0) (j .worlds)
+    c < k → k ≡ columns (j .ends) (j .kinds) → InWorlds (getD after c 0) (j .worlds)
 staying-worlds {c = c} those within c< is = rw (those .others c (omega arith)) (worlds-at within c< is)
 
 -- ---- the same word at each column
@@ -100,14 +100,14 @@ module _ {sets : List ℕ} {n : ℕ} (before : EmptyBelow sets n) where
       by c c< (no d) = before .empty c (omega arith)
 
   -- All columns: there is no candidate.
-  pub no-candidate : {kinds k : ℕ} → k ≤ n → k ≡ columns kinds → NoneLeft kinds sets true
+  pub no-candidate : {j : Job} {k : ℕ} → k ≤ n → k ≡ columns (j .ends) (j .kinds) → NoneLeft j sets true
   no-candidate all is w c held =
       false≢true (sym (none-in-zero (w .0)) ∙ (rw (before .empty c (omega (arith, held .is-column))) at (held .has)))
 
 -- A word that is not 0 holds one.
 pub some-candidate-left :
-    {kinds k : ℕ} (sets : List ℕ) {c : ℕ} → c < k → k ≡ columns kinds → getD sets c 0 < 2 ^ 64 → getD sets c 0 ≢ 0 →
-    NoneLeft kinds sets false
+    {j : Job} {k : ℕ} (sets : List ℕ) {c : ℕ} → c < k → k ≡ columns (j .ends) (j .kinds) → getD sets c 0 < 2 ^ 64 → getD sets c 0 ≢ 0 →
+    NoneLeft j sets false
 some-candidate-left sets {c} c< is fits other =
     let (w, has) = some-bit fits other in
     (worldState w, c, record { is-column = omega arith; has = has })
@@ -115,28 +115,23 @@ some-candidate-left sets {c} c< is fits other =
 -- ---- a file that is not refused
 
 module _ (s : List ℕ) {j : Job} (opened : Opened s j) where
-  -- There are at most sixteen columns.
-  pub few-columns : columns (j .kinds) ≤ 16
-  unfolding columns
-  few-columns = omega (arith, laid-out s j opened .kinds-range)
-
-  -- The number of them that the code has counted.
-  pub column-count-few : {k : ℕ} → k ≡ columns (j .kinds) → k ≤ 16
-  column-count-few is = omega (arith, few-columns)
+  -- There are at most sixteen columns, whose number the code has counted.
+  pub column-count-few : {k : ℕ} → k ≡ columns (j .ends) (j .kinds) → k ≤ 16
+  column-count-few is = omega (arith, columns-few s j opened)
 
   -- A column of the tables is one of the job's.
-  job-column : {c : ℕ} → c < columns (tablesOf s .kinds) → c < columns (j .kinds)
-  job-column c< = rw (kinds-are s j opened) c<
+  job-column : {c : ℕ} → c < columns (tablesOf s .ends) (tablesOf s .kinds) → c < columns (j .ends) (j .kinds)
+  job-column c< = rw (kinds-are s j opened, ends-are s j opened) c<
 
   -- And the other way round.
-  table-column : {c : ℕ} → c < columns (j .kinds) → c < columns (tablesOf s .kinds)
-  table-column c< = rw (← kinds-are s j opened) c<
+  table-column : {c : ℕ} → c < columns (j .ends) (j .kinds) → c < columns (tablesOf s .ends) (tablesOf s .kinds)
+  table-column c< = rw (← kinds-are s j opened, ← ends-are s j opened) c<
 
   -- The same set at every column.
   everywhere :
       {Held : Candidates} {sets : List ℕ} {word n : ℕ} →
-      ((w : WorldState) (c : ℕ) → Held w c ↔ (Has word w × (c < columns (tablesOf s .kinds)))) → Filled sets word n → 16 ≤ n →
-      HoldJust (j .kinds) Held sets
+      ((w : WorldState) (c : ℕ) → Held w c ↔ (Has word w × (c < columns (tablesOf s .ends) (tablesOf s .kinds)))) → Filled sets word n → 16 ≤ n →
+      HoldJust j Held sets
   everywhere {Held} {sets} {word} {n} is filled enough =
       record {
         holds = λ w c. (
@@ -147,13 +142,13 @@ module _ (s : List ℕ) {j : Job} (opened : Opened s j) where
         );
       }
     where
-      same : {c : ℕ} → c < columns (j .kinds) → getD sets c 0 ≡ word
-      same {c} c< = filled .same c (omega (arith, few-columns))
+      same : {c : ℕ} → c < columns (j .ends) (j .kinds) → getD sets c 0 ≡ word
+      same {c} c< = filled .same c (omega (arith, columns-few s j opened))
 
   -- Before the first entry.
   pub first-held :
       {sets : List ℕ} {word n : ℕ} → Adds (Gathered (StartAt (tablesOf s)) (tablesOf s .worlds)) 0 word → Filled sets word n → 16 ≤ n →
-      HoldJust (j .kinds) (FirstCandidates (tablesOf s)) sets
+      HoldJust j (FirstCandidates (tablesOf s)) sets
   first-held added =
       everywhere (λ w c. (
         λ (marked, c<). (
@@ -164,7 +159,7 @@ module _ (s : List ℕ) {j : Job} (opened : Opened s j) where
       ))
 
   -- The first candidates are in world states of the job.
-  pub first-worlds : {sets : List ℕ} → HoldJust (j .kinds) (FirstCandidates (tablesOf s)) sets → WorldsIn j sets
+  pub first-worlds : {sets : List ℕ} → HoldJust j (FirstCandidates (tablesOf s)) sets → WorldsIn j sets
   first-worlds first =
       record {
         below = λ w c held.
@@ -173,7 +168,7 @@ module _ (s : List ℕ) {j : Job} (opened : Opened s j) where
 
   -- So are those after an entry.
   pub next-worlds :
-      {From : Candidates} {l : Label} {sets : List ℕ} → HoldJust (j .kinds) (NextCandidates (tablesOf s) From l) sets → WorldsIn j sets
+      {From : Candidates} {l : Label} {sets : List ℕ} → HoldJust j (NextCandidates (tablesOf s) From l) sets → WorldsIn j sets
   next-worlds {l = l} next =
       record {
         below = λ w c held.
@@ -186,8 +181,8 @@ module _ (s : List ℕ) {j : Job} (opened : Opened s j) where
   module _ (l : Label) {before : List ℕ} {b : Bool} (read : b ≡ movesOn (tablesOf s) (actionOf l)) where
     -- It moves on.
     pub passed-held :
-        {after : List ℕ} {word n : ℕ} → b ≡ true → Adds (Gathered (LedAt (tablesOf s) l before) (columns (j .kinds))) 0 word →
-        Filled after word n → 16 ≤ n → HoldJust (j .kinds) (NextCandidates (tablesOf s) (Holds (j .kinds) before) l) after
+        {after : List ℕ} {word n : ℕ} → b ≡ true → Adds (Gathered (LedAt (tablesOf s) l before) (columns (j .ends) (j .kinds))) 0 word →
+        Filled after word n → 16 ≤ n → HoldJust j (NextCandidates (tablesOf s) (Holds j before) l) after
     passed-held moving added =
         everywhere (λ w c. (
           λ n. (
@@ -212,8 +207,8 @@ module _ (s : List ℕ) {j : Job} (opened : Opened s j) where
 
     -- It stays.
     pub stayed-held :
-        {after : List ℕ} → b ≡ false → Stayed (tablesOf s) l before after (columns (j .kinds)) →
-        HoldJust (j .kinds) (NextCandidates (tablesOf s) (Holds (j .kinds) before) l) after
+        {after : List ℕ} → b ≡ false → Stayed (tablesOf s) l before after (columns (j .ends) (j .kinds)) →
+        HoldJust j (NextCandidates (tablesOf s) (Holds j before) l) after
     stayed-held {after} staying stayed =
         record {
           holds = λ w c. (

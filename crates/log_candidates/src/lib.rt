@@ -62,7 +62,7 @@ fn fill(sets: &mut [u64], set: u64)
 // The candidates before the first entry: the starts, at every column.
 pub fn first_candidates(file: &[u8], job: Job, sets: &mut [u64])
     requires { ⌜ Opened (now file) job × (16 ≤ length (now sets)) ⌝ }
-    ensures { λ _. ⌜ HoldJust (job .kinds) (FirstCandidates (tablesOf (now (file .entry)))) (now (sets .exit)) ⌝ }
+    ensures { λ _. ⌜ HoldJust job (FirstCandidates (tablesOf (now (file .entry)))) (now (sets .exit)) ⌝ }
 {
     let set = marked_starts(file, job);
     fill(sets, set);
@@ -70,7 +70,7 @@ pub fn first_candidates(file: &[u8], job: Job, sets: &mut [u64])
 
 // `to`, with the world state to which the entry leads from this one at the column, if it leads anywhere.
 fn add_next(file: &[u8], job: Job, entry: LogEntry, column: u8, world: WorldState, to: u64) -> u64
-    requires { ⌜ Opened (now file) job × EntryInJob job entry × (column < columns (job .kinds)) × (world .0 < job .worlds) ⌝ }
+    requires { ⌜ Opened (now file) job × EntryInJob job entry × (column < columns (job .ends) (job .kinds)) × (world .0 < job .worlds) ⌝ }
     ensures { λ r. ⌜ Adds (Led (tablesOf (now (file .entry))) (labelOf entry) column (world .0)) to r ⌝ }
 {
     let cell = read_cell_bytes(file, job, entry.action, world, column);
@@ -81,7 +81,7 @@ fn add_next(file: &[u8], job: Job, entry: LogEntry, column: u8, world: WorldStat
 // `to`, with the world states to which the entry leads from those of the set at the column. The loop goes from one world state of the
 // set to the next.
 fn add_all_next(file: &[u8], job: Job, entry: LogEntry, column: u8, set: u64, to: u64) -> u64
-    requires { ⌜ Opened (now file) job × EntryInJob job entry × (column < columns (job .kinds)) × InWorlds set (job .worlds) ⌝ }
+    requires { ⌜ Opened (now file) job × EntryInJob job entry × (column < columns (job .ends) (job .kinds)) × InWorlds set (job .worlds) ⌝ }
     ensures { λ r. ⌜ Adds (LedFrom (tablesOf (now (file .entry))) (labelOf entry) column set) to r ⌝ }
 {
     let mut rest = set;
@@ -97,9 +97,9 @@ fn add_all_next(file: &[u8], job: Job, entry: LogEntry, column: u8, set: u64, to
 // The candidates after an entry that stays at the lamp: those of each column for themselves.
 fn stay(file: &[u8], job: Job, entry: LogEntry, sets: &mut [u64])
     requires { ⌜ Opened (now file) job × EntryInJob job entry × WorldsIn job (now sets) × (16 ≤ length (now sets)) ⌝ }
-    ensures { λ _. ⌜ Stayed (tablesOf (now (file .entry))) (labelOf entry) (now (sets .entry)) (now (sets .exit)) (columns (job .kinds)) ⌝ }
+    ensures { λ _. ⌜ Stayed (tablesOf (now (file .entry))) (labelOf entry) (now (sets .entry)) (now (sets .exit)) (columns (job .ends) (job .kinds)) ⌝ }
 {
-    let columns = column_count(job.kinds);
+    let columns = column_count(job);
     let mut c: u8 = 0;
     while (c as u16) < columns {
         let at = c as usize;
@@ -111,9 +111,9 @@ fn stay(file: &[u8], job: Job, entry: LogEntry, sets: &mut [u64])
 // The world states after an entry that moves on, from the candidates of all columns together.
 fn pass(file: &[u8], job: Job, entry: LogEntry, sets: &[u64]) -> u64
     requires { ⌜ Opened (now file) job × EntryInJob job entry × WorldsIn job (now sets) × (16 ≤ length (now sets)) ⌝ }
-    ensures { λ r. ⌜ Adds (Gathered (LedAt (tablesOf (now (file .entry))) (labelOf entry) (now (sets .entry))) (columns (job .kinds))) 0 r ⌝ }
+    ensures { λ r. ⌜ Adds (Gathered (LedAt (tablesOf (now (file .entry))) (labelOf entry) (now (sets .entry))) (columns (job .ends) (job .kinds))) 0 r ⌝ }
 {
-    let columns = column_count(job.kinds);
+    let columns = column_count(job);
     let mut to: u64 = 0;
     let mut c: u8 = 0;
     while (c as u16) < columns {
@@ -126,8 +126,8 @@ fn pass(file: &[u8], job: Job, entry: LogEntry, sets: &[u64]) -> u64
 // The candidates after one more entry. After a lamp is passed, the next may be of any kind, or the line may be at its end.
 pub fn advance(file: &[u8], job: Job, entry: LogEntry, sets: &mut [u64])
     requires { ⌜ Opened (now file) job × EntryInJob job entry × WorldsIn job (now sets) × (16 ≤ length (now sets)) ⌝ }
-    ensures { λ _. ⌜ HoldJust (job .kinds)
-        (NextCandidates (tablesOf (now (file .entry))) (Holds (job .kinds) (now (sets .entry))) (labelOf entry)) (now (sets .exit)) ⌝ }
+    ensures { λ _. ⌜ HoldJust job
+        (NextCandidates (tablesOf (now (file .entry))) (Holds job (now (sets .entry))) (labelOf entry)) (now (sets .exit)) ⌝ }
 {
     if moves_on(file, job, entry.action) {
         let set = pass(file, job, entry, sets);
@@ -138,11 +138,11 @@ pub fn advance(file: &[u8], job: Job, entry: LogEntry, sets: &mut [u64])
 }
 
 // There is no candidate.
-pub fn none_left(sets: &[u64], kinds: u8) -> bool
-    requires { ⌜ (columns kinds ≤ 16) × (16 ≤ length (now sets)) ⌝ }
-    ensures { λ r. ⌜ NoneLeft kinds (now (sets .entry)) r ⌝ }
+pub fn none_left(sets: &[u64], job: Job) -> bool
+    requires { ⌜ (columns (job .ends) (job .kinds) ≤ 16) × (16 ≤ length (now sets)) ⌝ }
+    ensures { λ r. ⌜ NoneLeft job (now (sets .entry)) r ⌝ }
 {
-    let columns = column_count(kinds);
+    let columns = column_count(job);
     let mut c: u8 = 0;
     while (c as u16) < columns {
         if sets[c as usize] != 0 {

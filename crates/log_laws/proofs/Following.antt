@@ -16,7 +16,7 @@ use Rattle.lamp_line.specs.Check.{situation}
 use Rattle.lamp_line.specs.Replay.{Possible}
 use Rattle.run_laws.proofs.Steps.{none-in-empty}
 use Rattle.log_laws.specs.inner.Candidates.{Candidates, LeadsTo, FirstCandidates, NextCandidates, NextEntry, Stuck, GoesOn, Follows}
-use Rattle.log_laws.proofs.Columns.{column-is-below, lamp-before, some-column, line-at, rest-fits}
+use Rattle.run_laws.proofs.Columns.{column-is-below, lamp-before, some-column, line-at, rest-fits}
 
 module _ (t : Tables) where
   -- What gives a log leads somewhere.

@@ -18,7 +18,7 @@ use Rattle.lamp_line.specs.Executions.{RestsAfter}
 use Rattle.lamp_line.specs.Replay.{Gives, Possible, FirstImpossible}
 use Rattle.run_laws.proofs.Steps.{steps-determined}
 use Rattle.run_laws.proofs.Actions.{ends-halted}
-use Rattle.log_laws.proofs.Columns.{some-column, line-at}
+use Rattle.run_laws.proofs.Columns.{some-column, line-at}
 
 module _ (t : Tables) where
   -- What gives a log gives its beginnings.

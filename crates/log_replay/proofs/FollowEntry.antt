@@ -45,14 +45,14 @@ acts-so t q a live acts =
 
 -- An entry that cannot be made has no branch.
 stuck-so :
-    {t : Tables} {kinds : ℕ} {q : ProgramState} {l : Label} {before after : List ℕ} → Stuck t q (Holds kinds before) l →
-    Followed t kinds q l NoBranch before after
+    {t : Tables} {j : Job} {q : ProgramState} {l : Label} {before after : List ℕ} → Stuck t q (Holds j before) l →
+    Followed t j q l NoBranch before after
 stuck-so stuck = record { stuck = λ is. stuck; goes-on = λ q′ is. absurd (let z : _≡_ {A = ℕ} 0 1 = cc in omega arith) }
 
 module _ (s : List ℕ) {j : Job} (opened : Opened s j) (q : ProgramState) (entry : LogEntry) where
   module _ {does : Bool} (tested : does ≡ actsSo (tablesOf s) q (entry .action)) where
     -- The plan has ended, or its action is another.
-    pub stuck-acting : {before after : List ℕ} → not does ≡ true → Followed (tablesOf s) (j .kinds) q (labelOf entry) NoBranch before after
+    pub stuck-acting : {before after : List ℕ} → not does ≡ true → Followed (tablesOf s) j q (labelOf entry) NoBranch before after
     stuck-acting other =
         stuck-so (λ q′ w c next.
         false≢true
@@ -70,19 +70,19 @@ module _ (s : List ℕ) {j : Job} (opened : Opened s j) (q : ProgramState) (entr
 
       -- The candidates after the entry.
       module _
-          {before after : List ℕ} (next : HoldJust (j .kinds) (NextCandidates (tablesOf s) (Holds (j .kinds) before) (labelOf entry)) after)
-          {no-more : Bool} (left : NoneLeft (j .kinds) after no-more)
+          {before after : List ℕ} (next : HoldJust j (NextCandidates (tablesOf s) (Holds j before) (labelOf entry)) after)
+          {no-more : Bool} (left : NoneLeft j after no-more)
         where
           -- There is none.
-          pub stuck-nowhere : no-more ≡ true → Followed (tablesOf s) (j .kinds) q (labelOf entry) NoBranch before after
+          pub stuck-nowhere : no-more ≡ true → Followed (tablesOf s) j q (labelOf entry) NoBranch before after
           stuck-nowhere nowhere =
               stuck-so (λ q′ w c by.
-              subst (λ (b : Bool). NoneLeft (j .kinds) after b) nowhere left w c (next .holds w c .1 (by .next)))
+              subst (λ (b : Bool). NoneLeft j after b) nowhere left w c (next .holds w c .1 (by .next)))
 
           -- The plan's branch decides.
           pub branch-decides :
               {target : Target} → no-more ≡ false → targetOf target ≡ tablesOf s .target q (entry .result) →
-              Followed (tablesOf s) (j .kinds) q (labelOf entry) target before after
+              Followed (tablesOf s) j q (labelOf entry) target before after
           branch-decides somewhere branch =
               record {
                 stuck = λ is q′ w c by.
@@ -95,6 +95,6 @@ module _ (s : List ℕ) {j : Job} (opened : Opened s j) (q : ProgramState) (entr
                       acts = in-plan .1;
                       branch = sym branch ∙ ap targetOf is;
                       next = next .holds;
-                      some-next = subst (λ (b : Bool). NoneLeft (j .kinds) after b) somewhere left;
+                      some-next = subst (λ (b : Bool). NoneLeft j after b) somewhere left;
                     };
               }

@@ -1,6 +1,6 @@
 -- The loop of the replay: the first i entries are possible, q is the program state to which they lead, and the words hold the
 -- candidates. An entry that cannot be made is the first with which the log is impossible.
-use mathlib.Core.Path.{_≡_, ap, subst, _∙_}
+use mathlib.Core.Path.{_≡_, sym, ap, subst, _∙_}
 use mathlib.Core.Bool.{false, _||_}
 use mathlib.Core.List.{List, []}
 use Prim.Native.Nat.{ℕ, suc, _+_, _≤_, _<_}
@@ -40,14 +40,14 @@ pub record Replaying (s : List ℕ) (j : Job) (log : List ℕ) (i : ℕ) (q : Pr
   pub state-range : q .0 ≤ j .states
   pub long : length sets ≡ 16
   pub worlds : WorldsIn j sets
-  pub follows : Follows (tablesOf s) (firstEntries log i) q (Holds (j .kinds) sets)
+  pub follows : Follows (tablesOf s) (firstEntries log i) q (Holds j sets)
 
 -- The loop begins.
 pub replaying-start :
     {s : List ℕ} {j : Job} {log sets : List ℕ} → Opened s j → entriesWrong (j .actions) (j .results) log ≡ false → length sets ≡ 16 →
-    HoldJust (j .kinds) (FirstCandidates (tablesOf s)) sets → Replaying s j log 0 (j .first) sets
+    HoldJust j (FirstCandidates (tablesOf s)) sets → Replaying s j log 0 (j .first) sets
 unfolding firstEntries
-replaying-start {s} {j} opened entries-right long first =
+replaying-start {s} {j} {sets = sets} opened entries-right long first =
     record {
       opened = opened;
       entries-right = entries-right;
@@ -55,7 +55,8 @@ replaying-start {s} {j} opened entries-right long first =
       state-range = laid-out s j opened .first-range;
       long = long;
       worlds = first-worlds s opened first;
-      follows = rw (first-is s j opened) (follows-start (tablesOf s) (well-formed s j opened) (first .holds));
+      follows = subst (λ (q : ProgramState). Follows (tablesOf s) [] q (Holds j sets)) (sym (first-is s j opened))
+          (follows-start (tablesOf s) (well-formed s j opened) (first .holds));
     }
 
 module _ {s : List ℕ} {j : Job} {log sets : List ℕ} {i : ℕ} {q : ProgramState} (now : Replaying s j log i q sets) where
@@ -77,7 +78,7 @@ module _ {s : List ℕ} {j : Job} {log sets : List ℕ} {i : ℕ} {q : ProgramSt
         record { action-range = leb-false _ _ (tests .0); result-range = leb-false _ _ (tests .1) }
 
     module _
-        {target : Target} {after : List ℕ} (followed : Followed (tablesOf s) (j .kinds) q (labelOf entry) target sets after)
+        {target : Target} {after : List ℕ} (followed : Followed (tablesOf s) j q (labelOf entry) target sets after)
       where
         -- It cannot be made: this is the first entry with which the log is impossible.
         pub replaying-stuck : target ≡ NoBranch → ReplayedRight (tablesOf s) log (answer.ImpossibleAt i)

@@ -86,13 +86,13 @@ fn follow_entry(
     sets: &mut [u64],
 ) -> Target
     requires { ⌜ Opened (now file) job × (state .0 ≤ job .states) × EntryInJob job entry × WorldsIn job (now sets) × (16 ≤ length (now sets)) ⌝ }
-    ensures { λ r. ⌜ Followed (tablesOf (now (file .entry))) (job .kinds) state (labelOf entry) r (now (sets .entry)) (now (sets .exit)) ⌝ }
+    ensures { λ r. ⌜ Followed (tablesOf (now (file .entry))) job state (labelOf entry) r (now (sets .entry)) (now (sets .exit)) ⌝ }
 {
     if !acts(file, job, state, entry.action) {
         return Target::NoBranch;
     }
     advance(file, job, entry, sets);
-    if none_left(sets, job.kinds) {
+    if none_left(sets, job) {
         return Target::NoBranch;
     }
     plan_target(file, job, state, entry.result)

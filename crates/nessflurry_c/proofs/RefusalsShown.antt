@@ -17,7 +17,7 @@ use Rattle.lamp_line.specs.declared.Ending.the-variants.{Goal, Failure}
 use Rattle.lamp_line.specs.declared.Cabinet.{Cabinet}
 use Rattle.lamp_line.specs.Endings.{kindNumber}
 use Rattle.lamp_line.specs.Refusals.{Rule, _when_, refusal, orRefused, answerBy}
-use Rattle.lamp_line.specs.Tables.{Tables, lampLine}
+use Rattle.lamp_line.specs.Tables.{Tables}
 use Rattle.lamp_line.specs.Run.{Walk, ended, arrived, Limited, within, stopped, pair, lampWalk, limited, run as lineRun}
 use Rattle.job_layout.specs.JobTables.{tablesOf}
 use Rattle.job_file.specs.declared.Reading.the-variants as reading
@@ -121,7 +121,7 @@ ran-shown (within x k) = answered (endingCode x) 0 0 k (ending-code x)
 ran-shown (stopped k) = answered stoppedCode 0 0 k (omega arith)
 
 failed-shown : (f : FailedAnswer) → RefusalShown (failedWord f)
-failed-shown f = answered (kindNumber (f .kind)) (f .start .0) 0 (f .lamps) (kind-code (f .kind))
+failed-shown f = answered (kindNumber (f .kind)) (f .start .0) (f .end) (f .lamps) (kind-code (f .kind))
 
 -- Either check: its answer shows whether it is a refusal, if each answer that is right does.
 module _ {A : Type 0} (refuse : ℕ → A) (IsRight : A → List ℕ → List ℕ → Type 0) (word : A → ℕ)
@@ -178,9 +178,9 @@ refusals-shown =
       of-walk = λ s q w column.
           by-rules walk.Refused walkWord refused-empty (walkRules s q w column) refl _
           (walked-shown (lampWalk (tablesOf s) (pair q w) column));
-      of-run = λ s start lamps limit.
-          by-rules run.Refused runWord refused-empty (runRules s start lamps) refl _
-          (ran-shown (limited limit (lineRun (tablesOf s) start (lampLine lamps))));
+      of-run = λ s start line limit.
+          by-rules run.Refused runWord refused-empty (runRules s start line) refl _
+          (ran-shown (limited limit (lineRun (tablesOf s) start line)));
       of-check = λ s n before after word.
           rw (word .as-number)
           (by-check check.Refused (AnsweredRight (tablesOf s)) checkWord refused-empty (checked-shown (tablesOf s)) s (word .answer)

@@ -83,10 +83,10 @@ abbrev pub readWord : Reading → ℕ
 readWord (reading.Job j) = answerWord 0 goalCode 0 0 0
 readWord (reading.Refused number) = refusedWord number
 
--- The numbers that the reader writes for a job: bytes 0 to 5 of the file, then offset and length of each of its five parts.
+-- The numbers that the reader writes for a job: bytes 0 to 6 of the file, then offset and length of each of its five parts.
 abbrev pub headNumbers : Job → List ℕ
 headNumbers j =
-    j .actions ∷ j .worlds ∷ j .kinds ∷ j .results ∷ j .states ∷ j .first .0
+    j .actions ∷ j .worlds ∷ j .kinds ∷ j .results ∷ j .states ∷ j .first .0 ∷ j .ends
     ∷ j .marks .offset ∷ j .marks .length
     ∷ j .cells .offset ∷ j .cells .length
     ∷ j .starts .offset ∷ j .starts .length
@@ -111,9 +111,9 @@ runWord (run.Ended x k) = answerWord 0 (endingCode x) 0 0 k
 runWord (run.Stopped k) = answerWord 0 stoppedCode 0 0 k
 runWord (run.Refused number) = refusedWord number
 
--- A failure that a check names: the state field holds the start, and the count is the number of lamps.
+-- A failure that a check names: the state field holds the start and the world field the kind of end, and the count is the number of lamps.
 abbrev pub failedWord : FailedAnswer → ℕ
-failedWord f = answerWord 0 (kindNumber (f .kind)) (f .start .0) 0 (f .lamps)
+failedWord f = answerWord 0 (kindNumber (f .kind)) (f .start .0) (f .end) (f .lamps)
 
 -- After Accepted the count is the number of pairs.
 abbrev pub checkWord : CheckAnswer → ℕ

@@ -6,6 +6,7 @@ use Prim.Native.Nat.{ℕ, _/_, _%_, _<_}
 use Rattle.lamp_line.specs.declared.ProgramState.{ProgramState}
 use Rattle.lamp_line.specs.declared.WorldState.{WorldState}
 use Rattle.lamp_line.specs.declared.Cabinet.{Cabinet}
+use Rattle.lamp_line.specs.Tables.{Line}
 use Rattle.job_file.specs.Reading.{readingOf}
 use Rattle.lamp_walk.specs.WalkAnswers.{walkAnswer}
 use Rattle.line_run.specs.RunAnswers.{runAnswer}
@@ -54,7 +55,7 @@ RefusalShown n = (codeField n ≡ refusedCode) ↔ (refusalField n ≢ 0)
 pub record RefusalsShown : Type 0 where
   pub of-read : (s : List ℕ) → RefusalShown (readWord (readingOf s))
   pub of-walk : (s : List ℕ) (q : ProgramState) (w : WorldState) (column : ℕ) → RefusalShown (walkWord (walkAnswer s q w column))
-  pub of-run : (s : List ℕ) (start : WorldState) (lamps : List ℕ) (limit : ℕ) → RefusalShown (runWord (runAnswer s start lamps limit))
+  pub of-run : (s : List ℕ) (start : WorldState) (line : Line) (limit : ℕ) → RefusalShown (runWord (runAnswer s start line limit))
   pub of-check : (s : List ℕ) (n : ℕ) (before after : Lent) → CheckedWord s n before after → RefusalShown n
   pub of-check-up-to : (s : List ℕ) (longest n : ℕ) (before after : Lent) → CheckedUpToWord s longest n before after → RefusalShown n
   pub of-begin : (s : List ℕ) (lamps : ℕ) → RefusalShown (beginWord (beginAnswer s lamps))

@@ -4,7 +4,7 @@
 mod words;
 
 ghost use mathlib.Core.Path.{_≡_};
-ghost use Rattle.lamp_line.specs.Tables.{programState, worldState};
+ghost use Rattle.lamp_line.specs.Tables.{programState, worldState, lineOf};
 ghost use Rattle.job_file.specs.Reading.{readingOf};
 ghost use Rattle.lamp_walk.specs.WalkAnswers.{walkAnswer};
 ghost use Rattle.line_run.specs.RunAnswers.{runAnswer};
@@ -36,7 +36,7 @@ use words::short_word;
 use words::walk_word;
 
 // The version of include/nessflurry.h.
-const VERSION: u32 = 1;
+const VERSION: u32 = 2;
 
 #[no_mangle]
 pub extern "C" fn nessflurry_version() -> u32
@@ -46,7 +46,7 @@ pub extern "C" fn nessflurry_version() -> u32
 }
 
 // The numbers that the reader writes for a job, in their order.
-fn head_numbers(job: Job) -> [u16; 16]
+fn head_numbers(job: Job) -> [u16; 17]
     ensures { λ r. ⌜ r ≡ headNumbers job ⌝ }
 {
     let marks = job.marks;
@@ -61,6 +61,7 @@ fn head_numbers(job: Job) -> [u16; 16]
         job.results as u16,
         job.states as u16,
         job.first.0 as u16,
+        job.ends as u16,
         marks.offset,
         marks.length,
         cells.offset,
@@ -75,7 +76,7 @@ fn head_numbers(job: Job) -> [u16; 16]
 }
 
 #[no_mangle]
-pub extern "C" fn nessflurry_raw_read(file: &[u8], head: &mut [u16; 16]) -> u64
+pub extern "C" fn nessflurry_raw_read(file: &[u8], head: &mut [u16; 17]) -> u64
     ensures { λ r. ⌜ r ≡ readWord (readingOf (now (file .entry))) ⌝ }
     ensures { λ _. ⌜ now (head .exit) ≡ headAfter (readingOf (now (file .entry))) (now (head .entry)) ⌝ }
 {
@@ -95,10 +96,16 @@ pub extern "C" fn nessflurry_raw_walk(file: &[u8], state: u8, world: u8, column:
 }
 
 #[no_mangle]
-pub extern "C" fn nessflurry_raw_run(file: &[u8], start: u8, line: &[u8], limit: u32) -> u64
-    ensures { λ r. ⌜ r ≡ runWord (runAnswer (now (file .entry)) (worldState start) (now (line .entry)) limit) ⌝ }
+pub extern "C" fn nessflurry_raw_run(
+    file: &[u8],
+    start: u8,
+    line: &[u8],
+    end: u8,
+    limit: u32,
+) -> u64
+    ensures { λ r. ⌜ r ≡ runWord (runAnswer (now (file .entry)) (worldState start) (lineOf end (now (line .entry))) limit) ⌝ }
 {
-    run_word(run_line(file, WorldState(start), line, limit))
+    run_word(run_line(file, WorldState(start), line, end, limit))
 }
 
 #[no_mangle]

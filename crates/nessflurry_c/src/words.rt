@@ -99,7 +99,7 @@ fn failed_word(failure: Failure) -> u64
         0,
         failure_number(kind),
         failure.start.0,
-        0,
+        failure.end,
         failure.lamps as u32,
     )
 }

@@ -120,15 +120,15 @@ pub fn cell_wrong(file: &[u8], job: Job) -> bool
     )
 }
 
-// The action is legal in column 0 in some world state.
-fn legal_at_end(file: &[u8], job: Job, action: u8) -> bool
-    requires { ⌜ Laid (now file) job × (action < job .actions) ⌝ }
-    ensures { λ r. ⌜ r ≡ some-below (job .worlds) (legalAtEnd (now (file .entry)) job action) ⌝ }
+// The action is legal at this end in some world state.
+fn legal_at_end(file: &[u8], job: Job, action: u8, end: u8) -> bool
+    requires { ⌜ Laid (now file) job × (action < job .actions) × (end < job .ends + 1) ⌝ }
+    ensures { λ r. ⌜ r ≡ legalAtEnd (now (file .entry)) job action end ⌝ }
 {
     let worlds = job.worlds;
     let mut w = 0;
     while w < worlds {
-        let at = next_place(job, action, WorldState(w), 0);
+        let at = next_place(job, action, WorldState(w), end);
         if file[at + 1] != 255 {
             return true;
         }
@@ -137,14 +137,30 @@ fn legal_at_end(file: &[u8], job: Job, action: u8) -> bool
     false
 }
 
-// The action moves on, and is legal in column 0 in some world state.
+// The action is legal at some end.
+fn legal_at_ends(file: &[u8], job: Job, action: u8) -> bool
+    requires { ⌜ Laid (now file) job × (action < job .actions) ⌝ }
+    ensures { λ r. ⌜ r ≡ some-below (job .ends + 1) (legalAtEnd (now (file .entry)) job action) ⌝ }
+{
+    let count = job.ends + 1;
+    let mut end = 0;
+    while end < count {
+        if legal_at_end(file, job, action, end) {
+            return true;
+        }
+        end += 1;
+    }
+    false
+}
+
+// The action moves on, and is legal at some end.
 fn moves_on_at_end(file: &[u8], job: Job, action: u8) -> bool
     requires { ⌜ Laid (now file) job × (action < job .actions) ⌝ }
     ensures { λ r. ⌜ r ≡ movesOnAtEnd (now (file .entry)) job action ⌝ }
 {
     let at = mark_place(job, action);
     if file[at] == 1 {
-        return legal_at_end(file, job, action);
+        return legal_at_ends(file, job, action);
     }
     false
 }

@@ -100,7 +100,7 @@ found-right s {j} {longest} {f} {line} {line′} opened finds =
           all = λ far. subst (Right (tablesBy s j)) (finds .so .all (omega (arith, pairs-few wf))) right;
           unchanged = finds .others;
         }
-    go (found.Fails kind start lamps) finds =
+    go (found.Fails kind start lamps end) finds =
         record {
           failed-right = record {
             right = subst (Right (tablesBy s j)) (finds .so .verdict-is) right;
@@ -140,7 +140,7 @@ module _ {s : List ℕ} {lent : Lent} {j : Job} (enough : Enough s lent j) where
       }
 
   -- The memory has an entry for each pair at each column. The code computes their number in its own way.
-  module _ {count : ℕ} (e : count ≡ columns (j .kinds)) where
+  module _ {count : ℕ} (e : count ≡ columns (j .ends) (j .kinds)) where
     size-is : (j .states * j .worlds + j .worlds) * count ≡ memorySize (tablesBy s j)
     size-is = mul-comm (j .states * j .worlds + j .worlds) count ∙ ap₂ (λ (m n : ℕ). m * n) e (sym (all-pairs (j .states) (j .worlds)))
 

@@ -1,4 +1,4 @@
--- The check's answer, and what it leaves in the lent buffers (01, "The check" and "Who can cause which number").
+-- The check's answer, and what it leaves in the lent buffers (01, "The check" and "Who can cause which number"; 02, (c), for the end kind).
 use mathlib.Core.Path.{_≡_}
 use mathlib.Core.Bool.{Bool, _||_}
 use mathlib.Core.Option.{Option, none, some}
@@ -6,7 +6,7 @@ use mathlib.Core.List.{List, [], _∷_, _++_}
 use Prim.Native.Nat.{ℕ, _+_, _*_, _≤_}
 use lib.Dec.{ltb}
 use lib.ListN.{length, take, drop}
-use Rattle.lamp_line.specs.Tables.{Tables, lampLine}
+use Rattle.lamp_line.specs.Tables.{Tables, Line, lineOf}
 use Rattle.lamp_line.specs.Refusals.{Rule, _when_, refusal}
 use Rattle.lamp_line.specs.Check.{accepted, failed, Right}
 use Rattle.job_layout.specs.JobTables.{tablesOf}
@@ -28,9 +28,13 @@ abbrev pub checkRules : List ℕ → ℕ → ℕ → ℕ → List Rule
 checkRules s buffer numbers words =
     fileRules s ++ (12 when bufferShort (tablesOf s) buffer) ∷ (13 when listShort (tablesOf s) numbers words) ∷ []
 
--- The failure is the right one. Its line is at the front of the line buffer, and the bytes after it are as before.
+-- The line of a failure: it has the kind of end that is told, and its lamps are at the front of the line buffer.
+abbrev pub failedLine : Failure → List ℕ → Line
+failedLine f buffer = lineOf (f .end) (take (f .lamps) buffer)
+
+-- The failure is the right one, and the bytes of the line buffer after its lamps are as before.
 pub record FailedRight (t : Tables) (f : Failure) (line line′ : List ℕ) : Type 0 where
-  pub right : Right t (failed (f .kind) (f .start) (lampLine (take (f .lamps) line′)))
+  pub right : Right t (failed (f .kind) (f .start) (failedLine f line′))
   pub within : f .lamps ≤ length line′
   pub others : drop (f .lamps) line′ ≡ drop (f .lamps) line
 

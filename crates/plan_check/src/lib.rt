@@ -1,5 +1,5 @@
-// The check (01, "The check"): does the plan reach the goal on all lines, however long, from all marked starts? `check_plan` is the
-// operation, and `check_up_to` is the short check (02, (b)), which looks at lines of up to a number of lamps only. Neither asks anything of
+// The check (01, "The check"): does the plan reach the goal on all lines, however long and however they end, from all marked starts?
+// `check_plan` is the operation, and `check_up_to` is the short check (02, (b)), which looks at lines of up to a number of lamps only. Neither asks anything of
 // its caller. Both make the same search. It remembers the fates of walks in a memory on the stack. The memory is small for a small job,
 // because clearing the largest one costs more than the whole check of such a job.
 ghost use mathlib.Core.Path.{_≡_};
@@ -22,11 +22,12 @@ use lamp_line::WorldState;
 use plan_search::Found;
 use plan_search::search;
 
-// A failure: its kind, and the start and the number of lamps of its line. The lamps themselves are in the line buffer.
+// A failure: its kind, and the start, the number of lamps and the kind of end of its line. The lamps themselves are in the line buffer.
 pub struct Failure {
     pub kind: FailureKind,
     pub start: WorldState,
     pub lamps: u16,
+    pub end: u8,
 }
 
 // The check's answer. Accepted holds the number of pairs that some line reaches on arriving at a lamp or at the line's end, Refused the
@@ -62,11 +63,12 @@ fn outcome_of(found: Found) -> Outcome
 {
     match found {
         Found::NoneFails(count) => Outcome::NoneFails(count),
-        Found::Fails(kind, start, lamps) => {
+        Found::Fails(kind, start, lamps, end) => {
             let failure = Failure {
                 kind: kind,
                 start: start,
                 lamps: lamps,
+                end: end,
             };
             Outcome::Fails(failure)
         }
@@ -153,7 +155,7 @@ fn check_lines(
     if words.len() < (pairs + 63) / 64 {
         return Outcome::Refused(13);
     }
-    let size = pairs * column_count(job.kinds) as usize;
+    let size = pairs * column_count(job) as usize;
     if size <= 256 {
         return find_small(file, job, longest, line, list, words);
     }

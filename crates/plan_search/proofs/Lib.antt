@@ -4,4 +4,5 @@ pub mod ListLaws
 pub mod Naming
 pub mod NewPairs
 pub mod SearchLoops
+pub mod TryingEnds
 pub mod Turns

@@ -7,11 +7,10 @@ use lib.ListN.{length, take, drop}
 use lib.Seq.{take-at, drop-at, length-take-le}
 use Rattle.lamp_line.specs.declared.FailureKind.{FailureKind}
 use Rattle.lamp_line.specs.declared.WorldState.{WorldState}
-use Rattle.lamp_line.specs.Tables.{Tables, worldState}
+use Rattle.lamp_line.specs.Tables.{Tables, worldState, lineOf}
 use Rattle.lamp_line.specs.inner.WellFormed.{WellFormed}
 use Rattle.lamp_line.specs.Check.{failed}
 use Rattle.lamp_line.proofs.Products.{product-le}
-use Rattle.run_laws.specs.inner.Lines.{lineOf}
 use Rattle.check_laws.specs.inner.Search.{lineLamps}
 use Rattle.check_laws.proofs.VerdictRight.{failing-short}
 use Rattle.plan_search.specs.declared.SearchEnd.{SearchEnd}
@@ -30,9 +29,9 @@ finds-none {t} {longest} {r} {count} {list} searched e =
 
 -- A line fails.
 module _
-    {t : Tables} {longest : ℕ} {r : SearchEnd} {kind : FailureKind} {n place label lamps : ℕ} {list : List ℕ}
-    (searched : Searched t longest r list) (fails : r ≡ AtLine kind n place label lamps) where
-  met : LineMet t longest kind list n place label lamps
+    {t : Tables} {longest : ℕ} {r : SearchEnd} {kind : FailureKind} {end n place label lamps : ℕ} {list : List ℕ}
+    (searched : Searched t longest r list) (fails : r ≡ AtLine kind end n place label lamps) where
+  met : LineMet t longest kind end list n place label lamps
   met = subst (λ (u : SearchEnd). Searched t longest u list) fails searched .so
 
   -- The list has the words from which the line is read.
@@ -73,12 +72,12 @@ module _
     -- With the line that is written the answer is the definition's.
     pub finds-line :
         {line line′ : List ℕ} {w : WorldState} → t .states * t .worlds + 1 ≤ length line → length line′ ≡ length line →
-        Written (table t list n) place label lamps line w line′ → Finds t longest (found.Fails kind w lamps) line line′
+        Written (table t list n) place label lamps line w line′ → Finds t longest (found.Fails kind w lamps end) line line′
     finds-line {line} {line′} {w} enough same written =
         record {
           so = record {
             verdict-is = met .verdict-is
-                ∙ ap₂ (λ (u : WorldState) (l : List ℕ). failed kind u (lineOf 0 l)) (ap worldState (sym (written .start-is))) (sym front);
+                ∙ ap₂ (λ (u : WorldState) (l : List ℕ). failed kind u (lineOf end l)) (ap worldState (sym (written .start-is))) (sym front);
             short = met .short;
           };
           within = omega (arith, line-fits enough);

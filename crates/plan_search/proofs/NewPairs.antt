@@ -8,7 +8,7 @@ use lib.ListN.{length, getD, set, length-set}
 use lib.Seq.{getD-set-same, getD-set-other}
 use Rattle.lamp_line.specs.declared.ProgramState.{ProgramState}
 use Rattle.lamp_line.specs.declared.WorldState.{WorldState}
-use Rattle.lamp_line.specs.Tables.{Tables}
+use Rattle.lamp_line.specs.Tables.{Tables, columns}
 use Rattle.lamp_line.specs.inner.WellFormed.{WellFormed}
 use Rattle.lamp_line.specs.Run.{pair}
 use Rattle.run_laws.specs.inner.Pairs.{InRange, pairNumber, pairs}
@@ -33,6 +33,7 @@ use Rattle.plan_search.proofs.Turns.{tries-new}
 
 -- Labels are starts, of which there are at most 64, or kinds, of which there are at most 15.
 pub label-small : {t : Tables} {n place label : ℕ} → WellFormed t → HasLabel t n place label → label < 64
+unfolding columns
 label-small {t} {n} {place} {label} wf here = go place refl
   where
     go : (i : ℕ) → place ≡ i → label < 64
@@ -44,7 +45,7 @@ label-small {t} {n} {place} {label} wf here = go place refl
           here .high,
           later-place-label place (omega arith),
           later-place-labels t place (omega arith),
-          wf .kinds-range .1,
+          wf .columns-range,
         )
 
 -- The line of a label at a place reaches its end with a new pair.

@@ -139,8 +139,8 @@ module _
 
       -- The line fails: it is what the search finds.
       pub label-failed :
-          {kind : FailureKind} → Turned t list n place label (Fails kind) list′ words′ →
-          Searched t longest (AtLine kind n place label lamps) list′
+          {kind : FailureKind} {end : ℕ} → Turned t list n place label (Fails kind end) list′ words′ →
+          Searched t longest (AtLine kind end n place label lamps) list′
       label-failed turned =
           rw (turned .left)
           (record {

@@ -1,7 +1,7 @@
 // The search of the check (01, "The check"). It goes through places. At place 0 it tries the empty line from each start. Every further
-// place belongs to a pair of the working list, and there it tries that pair's line with one lamp more, of each kind. A new pair is put
-// in the list, unless the line that ends with it fails. The search stops at a line that fails, when no place is left, or before it would
-// try a line with more lamps than it was asked for (02, (b)).
+// place belongs to a pair of the working list, and there it tries that pair's line with one lamp more, of each kind. A line is tried with
+// every kind of end, the lowest first (02, (c)). A new pair is put in the list, unless the line that ends with it fails with some end. The
+// search stops at a line that fails, when no place is left, or before it would try a line with more lamps than it was asked for (02, (b)).
 ghost use mathlib.Core.Path.{_≡_};
 ghost use mathlib.Core.Bool.{_&&_};
 ghost use mathlib.Core.List.{List};
@@ -14,11 +14,12 @@ ghost use Rattle.lamp_fates.specs.inner.Memory.{Memory};
 ghost use Rattle.run_laws.specs.inner.Pairs.{pairs};
 ghost use Rattle.pair_bits.specs.inner.Bits.{bitAt};
 ghost use Rattle.check_laws.specs.inner.Search.{firstLabel, labels};
-ghost use Rattle.plan_search.specs.inner.Searching.{table, Listed, Ready, HasLabel, Begins, Tries, Turned, Searched, Room, Finds};
+ghost use Rattle.plan_search.specs.inner.Searching.{table, Listed, Ready, HasLabel, Begins, TriedBelow, TriesEnd, Tries, Turned, Searched, Room, Finds};
 use crate::line::write_line;
 use crate::list::pack;
 use crate::list::unpack;
 use job_layout::Job;
+use job_layout::places::lamp_column;
 use job_tables::is_start;
 use lamp_fates::Fate;
 use lamp_fates::fate_at;
@@ -43,41 +44,43 @@ pub struct Placed {
     pub label: u8,
 }
 
-// Where the last stretch of a line, its last lamp or the end of an empty line, begins: with a pair at a column; nowhere, if there is no
-// such line.
+// Where the last stretch of a line begins: with a pair at the column of its last lamp, or of its end if it is empty; nowhere, if there is
+// no such line.
 pub enum Stretch {
     Nowhere,
     From(ProgramState, WorldState, u8),
 }
 
-// What comes of trying a line: it fails; nothing is new; or it reaches its end with a new pair, and does not fail there.
+// What comes of trying a line: it fails, and this is the lowest kind of end with which it does; nothing is new; or it reaches its end with
+// a new pair, and fails with no kind of end.
 pub enum Tried {
-    Fails(FailureKind),
+    Fails(FailureKind, u8),
     Nothing,
     New(ProgramState, WorldState),
 }
 
-// The outcome of a turn of the search: its line fails, or the list now holds this many pairs.
+// The outcome of a turn of the search: its line fails, with this kind of end, or the list now holds this many pairs.
 pub enum TurnEnd {
-    Fails(FailureKind),
+    Fails(FailureKind, u8),
     Holds(usize),
 }
 
-// Where the search ends: no line fails, and this many pairs are in the list; or a line fails. Then it answers the failure kind, the number
-// of pairs in the list, the place and the label at which the line was tried, and the line's number of lamps.
+// Where the search ends: no line fails, and this many pairs are in the list; or a line fails. Then it answers the failure kind, the kind of
+// the line's end, the number of pairs in the list, the place and the label at which the line was tried, and its number of lamps.
 pub enum SearchEnd {
     NoneFails(u32),
-    AtLine(FailureKind, usize, usize, u8, usize),
+    AtLine(FailureKind, u8, usize, usize, u8, usize),
 }
 
-// What the search finds: no failure, and this number of pairs; or the failure kind with the start and the number of lamps of its line.
+// What the search finds: no failure, and this number of pairs; or the failure kind with the start, the number of lamps and the kind of
+// end of its line.
 pub enum Found {
     NoneFails(u32),
-    Fails(FailureKind, WorldState, u16),
+    Fails(FailureKind, WorldState, u16, u8),
 }
 
-// Where the last stretch begins of the line that is tried at a place with a label. At place 0 the line is empty. At every other place
-// its lamps but the last led to the pair that the list has for that place.
+// Where the last stretch begins of the line that is tried at a place with a label and an end. At place 0 the line is empty. At every
+// other place its lamps but the last led to the pair that the list has for that place.
 fn last_stretch(
     file: &[u8],
     job: Job,
@@ -86,27 +89,29 @@ fn last_stretch(
     count: usize,
     place: usize,
     label: u8,
+    end: u8,
 ) -> Stretch
     requires { ⌜ Opened (now file) job × Listed (tablesBy (now file) job) (now list) (now words) count
-        × HasLabel (tablesBy (now file) job) count place label ⌝ }
+        × HasLabel (tablesBy (now file) job) count place label × (end ≤ job .ends) ⌝ }
     ensures { λ r. ⌜ Begins (tablesBy (now (file .entry)) job) (table (tablesBy (now (file .entry)) job) (now (list .entry)) count)
-        place label r ⌝ }
+        place label end r ⌝ }
 {
     if place == 0 {
         let start = WorldState(label);
         let first = job.first;
         if is_start(file, job, start) {
-            return Stretch::From(first, start, 0);
+            return Stretch::From(first, start, end);
         }
         return Stretch::Nowhere;
     }
     let before = unpack(list[place - 1]);
     let state = before.state;
     let world = before.world;
-    Stretch::From(state, world, label)
+    Stretch::From(state, world, lamp_column(job, label))
 }
 
-// Whether a line is at its end with a pair that is in the list already.
+// Whether a line is at the lowest end with a pair that is in the list already. The lowest end is tried first, so there is no need to ask
+// at the others.
 fn is_met(words: &[u64], pair: usize, column: u8) -> bool
     requires { ⌜ pair < length (now words) * 64 ⌝ }
     ensures { λ r. ⌜ r ≡ (eqb column 0 && bitAt (now (words .entry)) pair) ⌝ }
@@ -117,7 +122,53 @@ fn is_met(words: &[u64], pair: usize, column: u8) -> bool
     false
 }
 
-// Tries a line: from its last lamp, and then, if it gets there with a new pair, at its end.
+// Tries a line with one kind of end, if it does not fail with a lower one: from its last lamp, and then, if it gets there with a new pair,
+// at its end.
+fn try_end(
+    file: &[u8],
+    job: Job,
+    memory: &mut [u16],
+    list: &[u32],
+    words: &[u64],
+    count: usize,
+    place: usize,
+    label: u8,
+    end: u8,
+) -> Tried
+    requires { ⌜ Ready (now file) job (now memory) × Listed (tablesBy (now file) job) (now list) (now words) count
+        × HasLabel (tablesBy (now file) job) count place label × (end ≤ job .ends)
+        × TriedBelow (tablesBy (now file) job) (table (tablesBy (now file) job) (now list) count) place label end ⌝ }
+    ensures { λ r. ⌜ TriesEnd (tablesBy (now (file .entry)) job) (table (tablesBy (now (file .entry)) job) (now (list .entry)) count)
+        place label end (now (words .entry)) r (now (memory .exit)) ⌝ }
+{
+    let stretch = last_stretch(file, job, list, words, count, place, label, end);
+    let Stretch::From(first, start, lamp) = stretch else {
+        return Tried::Nothing;
+    };
+    let mut state = first;
+    let mut world = start;
+    let mut column = lamp;
+    loop {
+        if is_met(words, pair_number(state, world, job.worlds), column) {
+            return Tried::Nothing;
+        }
+        let fate = fate_at(file, job, memory, state, world, column);
+        if let Fate::Fails(failure) = fate {
+            return Tried::Fails(failure, end);
+        }
+        if column == end {
+            return Tried::New(state, world);
+        }
+        let Fate::Arrives(to, next) = fate else {
+            return Tried::Nothing;
+        };
+        state = to;
+        world = next;
+        column = end;
+    }
+}
+
+// Tries a line with one kind of end after the other, the lowest first.
 fn try_line(
     file: &[u8],
     job: Job,
@@ -133,30 +184,16 @@ fn try_line(
     ensures { λ r. ⌜ Tries (tablesBy (now (file .entry)) job) (table (tablesBy (now (file .entry)) job) (now (list .entry)) count)
         place label (now (words .entry)) r (now (memory .exit)) ⌝ }
 {
-    let stretch = last_stretch(file, job, list, words, count, place, label);
-    let Stretch::From(first, start, lamp) = stretch else {
-        return Tried::Nothing;
-    };
-    let mut state = first;
-    let mut world = start;
-    let mut column = lamp;
+    let mut end = 0;
     loop {
-        if is_met(words, pair_number(state, world, job.worlds), column) {
-            return Tried::Nothing;
-        }
-        let fate = fate_at(file, job, memory, state, world, column);
-        if let Fate::Fails(failure) = fate {
-            return Tried::Fails(failure);
-        }
-        if column == 0 {
+        let tried = try_end(file, job, memory, list, words, count, place, label, end);
+        let Tried::New(state, world) = tried else {
+            return tried;
+        };
+        if end == job.ends {
             return Tried::New(state, world);
         }
-        let Fate::Arrives(to, next) = fate else {
-            return Tried::Nothing;
-        };
-        state = to;
-        world = next;
-        column = 0;
+        end += 1;
     }
 }
 
@@ -178,7 +215,7 @@ fn one_turn(
 {
     let tried = try_line(file, job, memory, list, words, count, place, label);
     match tried {
-        Tried::Fails(failure) => TurnEnd::Fails(failure),
+        Tried::Fails(failure, end) => TurnEnd::Fails(failure, end),
         Tried::Nothing => TurnEnd::Holds(count),
         Tried::New(state, world) => {
             set_bit(words, pair_number(state, world, job.worlds));
@@ -242,8 +279,9 @@ fn search_places(
         while label <= last {
             let turn = one_turn(file, job, memory, list, words, count, place, label);
             match turn {
-                TurnEnd::Fails(failure) => break 'search SearchEnd::AtLine(
+                TurnEnd::Fails(failure, end) => break 'search SearchEnd::AtLine(
                     failure,
+                    end,
                     count,
                     place,
                     label,
@@ -287,9 +325,9 @@ pub fn search(
     let halted = search_places(file, job, longest, memory, list, words);
     match halted {
         SearchEnd::NoneFails(count) => Found::NoneFails(count),
-        SearchEnd::AtLine(failure, count, place, label, lamps) => {
+        SearchEnd::AtLine(failure, end, count, place, label, lamps) => {
             let start = write_line(&list[..count], line, place, label, lamps);
-            Found::Fails(failure, start, lamps as u16)
+            Found::Fails(failure, start, lamps as u16, end)
         }
     }
 }

@@ -4,6 +4,8 @@ ghost use lib.ListN.{length};
 use bench_line::bench;
 use bench_line::bench_with;
 use bench_line::shifted;
+use case_jobs::three_ends;
+use case_jobs::three_ends_with;
 use case_printing::print_name;
 use case_printing::print_number;
 use case_printing::print_refused;
@@ -18,7 +20,7 @@ fn print_part(part: Part) {
     print_number(part.length as u64);
 }
 
-// Bytes 0 to 5.
+// Bytes 0 to 6.
 fn print_head(job: Job) {
     print_number(job.actions as u64);
     print_number(job.worlds as u64);
@@ -26,6 +28,7 @@ fn print_head(job: Job) {
     print_number(job.results as u64);
     print_number(job.states as u64);
     print_number(job.first.0 as u64);
+    print_number(job.ends as u64);
 }
 
 // The five parts.
@@ -90,6 +93,7 @@ fn smallest() -> [u8; 36]
 fn sizes() {
     let g = bench();
     show(b"bench line G", &g);
+    show(b"three end kinds", &three_ends());
     show_first(b"an empty file", 0, &g);
     show_first(b"27 bytes", 27, &g);
     show_first(b"28 bytes", 28, &g);
@@ -106,7 +110,8 @@ fn numbers() {
     show(b"R 9", &bench_with(3, 9));
     show(b"S 65", &bench_with(4, 65));
     show(b"first state above S", &bench_with(5, 5));
-    show(b"byte 6", &bench_with(6, 1));
+    show(b"15 end kinds, C 2", &bench_with(6, 14));
+    show(b"256 end kinds", &bench_with(6, 255));
     show(b"byte 7", &bench_with(7, 1));
 }
 
@@ -123,6 +128,9 @@ fn part_places() {
     show(b"marks of 3 bytes, plan past the file", &file);
     show(b"marks of 3 bytes", &bench_with(10, 3));
     show(b"goal of 8 bytes", &bench_with(22, 8));
+    show(b"two end kinds, lengths for one", &bench_with(6, 1));
+    show(b"14 end kinds, C 2, lengths for one", &bench_with(6, 13));
+    show(b"one end kind, lengths for three", &three_ends_with(6, 0));
 }
 
 // Bytes of marks, cells, starts and goal that are refused.
@@ -133,6 +141,11 @@ fn tables() {
     show(b"result 254", &bench_with(33, 254));
     show(b"255 with next 1", &bench_with(50, 1));
     show(b"a moving-on action legal in column 0", &bench_with(28, 1));
+    show(
+        b"the same at the second of three ends",
+        &three_ends_with(65, 0),
+    );
+    show(b"the same at the third", &three_ends_with(87, 0));
     show(b"start 2", &bench_with(105, 2));
     show(b"no start", &bench_with(104, 0));
     show(b"goal 2", &bench_with(115, 2));

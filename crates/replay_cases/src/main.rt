@@ -1,8 +1,10 @@
-// The replay of logs on bench line G and its variants: logs that are possible, logs with an entry that is not, and refusals. Prints the
-// operation's answers.
+// The replay of logs on bench line G and its variants, and on a job with three kinds of ends: logs that are possible, logs with an entry
+// that is not, and refusals. Prints the operation's answers.
 use bench_line::bench;
 use bench_line::bench_with;
 use bench_line::five_states;
+use case_jobs::three_ends;
+use case_jobs::three_ends_with;
 use case_printing::print_counted;
 use case_printing::print_name;
 use case_printing::print_refused;
@@ -100,6 +102,23 @@ fn other_plans() {
     replay(b"first state 4, any entry", &bench_with(5, 4), b"\0\x01");
 }
 
+// Lines that end in a cap, a joint box or a fuse box: each end gives its own logs, and stays what it is.
+fn end_kinds(file: &[u8]) {
+    replay(b"the log of a cap", file, b"\0\0");
+    replay(b"the log of a joint box", file, b"\0\x01\x02\0");
+    replay(
+        b"the log of [1] and a fuse box",
+        file,
+        b"\0\x03\x01\0\0\x02\x03\0",
+    );
+    replay(b"a joint box and the fuse set", file, b"\0\x01\x03\0");
+    replay(b"an entry after the fuse is set", file, b"\0\x02\x03\0\0\0");
+    let again = three_ends_with(172, 0);
+    replay(b"a joint box twice", &again, b"\0\x01\0\x01");
+    replay(b"a joint box and then a fuse box", &again, b"\0\x01\0\x02");
+    replay(b"a joint box and then a lamp", &again, b"\0\x01\0\x03");
+}
+
 // Logs of a wrong size, and the longest that is not.
 fn sizes() {
     let waiting = bench_with(117, 0);
@@ -133,6 +152,7 @@ fn main() {
     possible_logs(&g);
     impossible_logs(&g);
     other_plans();
+    end_kinds(&three_ends());
     sizes();
     wrong_entries(&g);
     order(&g);

@@ -4,6 +4,7 @@ ghost use lib.ListN.{length};
 use bench_line::bench;
 use bench_line::bench_with;
 use bench_line::five_states;
+use case_jobs::three_ends;
 use case_printing::print_counted;
 use case_printing::print_name;
 use case_printing::print_number;
@@ -34,11 +35,16 @@ fn print_run(answer: RunAnswer) {
     }
 }
 
-// Runs a line and prints the answer.
-fn run(name: &[u8], file: &[u8], start: u8, line: &[u8], limit: u32) {
+// Runs a line with this kind of end and prints the answer.
+fn run_to(name: &[u8], file: &[u8], start: u8, line: &[u8], end: u8, limit: u32) {
     print_name(name);
-    print_run(line_run::run_line(file, WorldState(start), line, limit));
+    print_run(line_run::run_line(file, WorldState(start), line, end, limit));
     print_text(b"\n");
+}
+
+// Runs a line with the end kind 0.
+fn run(name: &[u8], file: &[u8], start: u8, line: &[u8], limit: u32) {
+    run_to(name, file, start, line, 0, limit);
 }
 
 // The pair on arriving at the next lamp or at the line's end, with the number of steps.
@@ -199,6 +205,36 @@ fn long_lines(g: &[u8]) {
     run(b"65,536 lamps", g, 0, &longer, 4294967295);
 }
 
+// Lines that end in a cap, a joint box and a fuse box, and walks at these ends and at lamps, whose columns come after them.
+fn end_kinds(file: &[u8]) {
+    run_to(b"to a cap", file, 0, b"", 0, 100);
+    run_to(b"to a joint box", file, 0, b"", 1, 100);
+    run_to(b"to a fuse box", file, 0, b"", 2, 100);
+    run_to(b"[1,2] to a fuse box", file, 0, b"\x01\x02", 2, 100);
+    run_to(b"[1,2] to a fuse box, limit 5", file, 0, b"\x01\x02", 2, 5);
+    walk(b"walk from 0 in world 0 at a joint box", file, 0, 0, 1);
+    walk(b"walk from 2 in world 0 at a fuse box", file, 2, 0, 2);
+    walk(b"walk from 0 in world 0 at column 3", file, 0, 0, 3);
+    walk(b"walk from 0 in world 2 at column 4", file, 0, 2, 4);
+}
+
+// Kinds of ends and columns that are refused.
+fn refused_ends(g: &[u8], file: &[u8]) {
+    run_to(b"end kind 1 where there is one", g, 0, b"\x01", 1, 100);
+    run_to(b"end kind 3 where there are three", file, 0, b"", 3, 100);
+    run_to(b"end kind 255", file, 0, b"", 255, 100);
+    run_to(b"end kind 3, start not marked", file, 1, b"", 3, 100);
+    run_to(
+        b"a bad end kind after the end of the run",
+        &bench_with(118, 0),
+        0,
+        b"\x01",
+        1,
+        100,
+    );
+    walk(b"walk at column 5 of five", file, 0, 0, 5);
+}
+
 // Walks at one lamp of bench line G.
 fn walks(g: &[u8]) {
     walk(b"walk from 0 in world 0 at kind 1", g, 0, 0, 1);
@@ -226,4 +262,7 @@ fn main() {
     long_lines(&g);
     walks(&g);
     refused_walks(&g);
+    let ends = three_ends();
+    end_kinds(&ends);
+    refused_ends(&g, &ends);
 }

@@ -17,7 +17,7 @@ use Rattle.lamp_line.specs.declared.FailureKind.the-variants.{NotLegal, NoBranc
 use Rattle.lamp_line.specs.declared.Ending.{Ending}
 use Rattle.lamp_line.specs.declared.Ending.the-variants.{Goal, Failure}
 use Rattle.lamp_line.specs.Lists.{_∈_}
-use Rattle.lamp_line.specs.Tables.{Outcome, outcome, Tables, Line, Situation, programState, final, movesOn, column}
+use Rattle.lamp_line.specs.Tables.{Outcome, outcome, Tables, Line, Situation, programState, final, movesOn, column, lineOf}
 use Rattle.lamp_line.specs.inner.WellFormed.{WellFormed}
 use Rattle.lamp_line.specs.Tables.{passed, restAfter, lampTheory, lampProblem, planOf}
 use Rattle.lamp_line.specs.Endings.{Ends}
@@ -25,7 +25,6 @@ use Rattle.lamp_line.specs.Check.{situation}
 use Rattle.lamp_line.specs.Run.{Pair, pair, Move, ends, stays, passes, isFinal, judged, branched, carriedOut, act}
 use Rattle.plans.proofs.Executions.{Halted}
 use Rattle.run_laws.specs.inner.Pairs.{InRange}
-use Rattle.run_laws.specs.inner.Lines.{lineOf}
 use Rattle.run_laws.proofs.Steps.{none-in-empty, one-outcome, step-in-range}
 
 -- The first of a list is in it.

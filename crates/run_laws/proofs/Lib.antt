@@ -1,5 +1,6 @@
 pub mod Actions
 pub mod Circling
+pub mod Columns
 pub mod LoopLaws
 pub mod OneEnding
 pub mod Pairs

@@ -11,10 +11,9 @@ use lib.ListN.{length, drop}
 use Rattle.lamp_line.specs.declared.FailureKind.the-variants.{Circles}
 use Rattle.lamp_line.specs.declared.Ending.{Ending}
 use Rattle.lamp_line.specs.declared.Ending.the-variants.{Failure}
-use Rattle.lamp_line.specs.Tables.{Tables, column}
+use Rattle.lamp_line.specs.Tables.{Tables, column, lineOf}
 use Rattle.lamp_line.specs.Run.{Pair, ends, stays, passes, Walk, ended, arrived, Run, ran, stopped}
 use Rattle.lamp_line.specs.Run.{ownSteps, isFinal, judged, act, walk, lampWalk, along, limited}
-use Rattle.run_laws.specs.inner.Lines.{lineOf}
 use Rattle.run_laws.proofs.Walks.{walkAfter, walk-spent, walk-ends, walk-stays, walk-passes}
 use Rattle.run_laws.proofs.Runs.{runAfter, along-ends, along-passes}
 

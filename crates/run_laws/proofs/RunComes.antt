@@ -12,7 +12,7 @@ use Rattle.lamp_line.specs.declared.WorldState.{WorldState}
 use Rattle.lamp_line.specs.declared.FailureKind.the-variants.{NotLegal, NoBranch, Circles, GoalFalse}
 use Rattle.lamp_line.specs.declared.Ending.{Ending}
 use Rattle.lamp_line.specs.declared.Ending.the-variants.{Goal, Failure}
-use Rattle.lamp_line.specs.Tables.{Tables, Line, lampColumn}
+use Rattle.lamp_line.specs.Tables.{Tables, Line, lampColumn, lineOf}
 use Rattle.lamp_line.specs.inner.WellFormed.{WellFormed}
 use Rattle.lamp_line.specs.Endings.{Ends}
 use Rattle.lamp_line.specs.Check.{situation, Arrival}
@@ -21,7 +21,6 @@ use Rattle.lamp_line.specs.Tables.{Beginning}
 use Rattle.lamp_line.specs.Executions.{Execution, RestsAfter, Comes}
 use Rattle.run_laws.specs.inner.Pairs.{InRange}
 use Rattle.run_laws.proofs.Steps.{execution-in-range}
-use Rattle.run_laws.specs.inner.Lines.{lineOf}
 use Rattle.run_laws.proofs.Walks.{WalkMeans, rests, lingers, Arrives, arrives, walk-means, arrived-at-lamp}
 use Rattle.run_laws.proofs.Circling.{lingers-forever, lingers-passes-none}
 use Rattle.run_laws.proofs.Runs.{runAfter, along-ends, along-passes}
@@ -110,12 +109,12 @@ module _ (t : Tables) (wf : WellFormed t) (start : WorldState) (line : Line) (of
           let h = arrived-at-lamp t wf (t .states * t .worlds) p p′ (rest []) k (of .fits .ended) (sym e) in
           absurd (omega arith)
   along-comes (kind ∷ lamps) p ls came =
-      go (along-comes lamps) (lampWalk t p (lampColumn t kind)) refl
+      go (along-comes lamps) (lampWalk t p (lampColumn (t .ends) kind)) refl
       (walk-means t (t .states * t .worlds) p (rest (kind ∷ lamps)))
     where
       go :
           ((p′ : Pair) (ms : List Label) → Comes-to p′ lamps ms → RunComes (length ms) (along t (line .end) lamps p′)) →
-          (v : Walk) → lampWalk t p (lampColumn t kind) ≡ v → WalkMeans t (rest (kind ∷ lamps)) (t .states * t .worlds) p v →
+          (v : Walk) → lampWalk t p (lampColumn (t .ends) kind) ≡ v → WalkMeans t (rest (kind ∷ lamps)) (t .states * t .worlds) p v →
           RunComes (length ls) (along t (line .end) (kind ∷ lamps) p)
       go after (ended x k) e m =
           rw (along-ends t (line .end) (kind ∷ lamps) p x k e) (ended-comes p (kind ∷ lamps) ls came x k m)

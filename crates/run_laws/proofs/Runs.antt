@@ -8,10 +8,9 @@ use native.Mathlib.Omega.{arith}
 use lib.ListN.{length}
 use Rattle.lamp_line.specs.declared.WorldState.{WorldState}
 use Rattle.lamp_line.specs.declared.Ending.{Ending}
-use Rattle.lamp_line.specs.Tables.{Tables, Line, lampColumn, column}
+use Rattle.lamp_line.specs.Tables.{Tables, Line, lampColumn, column, lineOf}
 use Rattle.lamp_line.specs.Run.{Pair, pair, Move, ends, stays, passes, Walk, ended, arrived, Run, ran}
 use Rattle.lamp_line.specs.Run.{act, walk, lampWalk, along, run}
-use Rattle.run_laws.specs.inner.Lines.{lineOf}
 use Rattle.run_laws.proofs.Walks.{counts-at-most-one, walkAfter, walk-ends, walk-stays, walk-passes}
 
 -- ---- the run lamp by lamp
@@ -32,7 +31,7 @@ module _ (t : Tables) where
   -- The walk at the first lamp passes it.
   pub along-passes :
       (end kind : ℕ) (lamps : List ℕ) (p p′ : Pair) (k : ℕ) →
-      lampWalk t p (lampColumn t kind) ≡ arrived p′ k → along t end (kind ∷ lamps) p ≡ runAfter k (along t end lamps p′)
+      lampWalk t p (lampColumn (t .ends) kind) ≡ arrived p′ k → along t end (kind ∷ lamps) p ≡ runAfter k (along t end lamps p′)
   along-passes end kind lamps p p′ k e = go (along t end lamps p′) refl
     where
       go : (r : Run) → along t end lamps p′ ≡ r → along t end (kind ∷ lamps) p ≡ runAfter k r
@@ -77,14 +76,14 @@ module _ (t : Tables) where
       go : (v : Walk) → lampWalk t p end ≡ v → runSteps (along t end [] p) ≤ 1 * (t .states * t .worlds)
       go (ended x k) e = rw (along-ends t end [] p x k e) (omega (arith, rw e at most))
       go (arrived p′ k) e = unfold along in rw (e, along) (omega (arith, rw e at most))
-  along-bounded end (kind ∷ lamps) p = go (along-bounded end lamps) (lampWalk t p (lampColumn t kind)) refl
+  along-bounded end (kind ∷ lamps) p = go (along-bounded end lamps) (lampWalk t p (lampColumn (t .ends) kind)) refl
     where
-      most : walkSteps (lampWalk t p (lampColumn t kind)) ≤ t .states * t .worlds
-      most = walk-bounded (t .states * t .worlds) p (lampColumn t kind)
+      most : walkSteps (lampWalk t p (lampColumn (t .ends) kind)) ≤ t .states * t .worlds
+      most = walk-bounded (t .states * t .worlds) p (lampColumn (t .ends) kind)
 
       go :
           ((p′ : Pair) → runSteps (along t end lamps p′) ≤ suc (length lamps) * (t .states * t .worlds)) →
-          (v : Walk) → lampWalk t p (lampColumn t kind) ≡ v →
+          (v : Walk) → lampWalk t p (lampColumn (t .ends) kind) ≡ v →
           runSteps (along t end (kind ∷ lamps) p) ≤ suc (suc (length lamps)) * (t .states * t .worlds)
       go after (ended x k) e =
           rw (along-ends t end (kind ∷ lamps) p x k e)

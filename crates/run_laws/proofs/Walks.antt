@@ -14,12 +14,11 @@ use Rattle.plans.specs.Execution.{Label, actionOf, here, join, step}
 use Rattle.lamp_line.specs.declared.FailureKind.the-variants.{NotLegal, NoBranch, Circles, GoalFalse}
 use Rattle.lamp_line.specs.declared.Ending.{Ending}
 use Rattle.lamp_line.specs.declared.Ending.the-variants.{Goal, Failure}
-use Rattle.lamp_line.specs.Tables.{Tables, Line, final, movesOn, column, passed, endKinds}
+use Rattle.lamp_line.specs.Tables.{Tables, Line, final, movesOn, column, passed, endKinds, lineOf}
 use Rattle.lamp_line.specs.inner.WellFormed.{WellFormed}
 use Rattle.lamp_line.specs.Run.{Pair, Move, ends, stays, passes, Walk, ended, arrived, isFinal, judged, act, ownSteps, walk}
 use Rattle.run_laws.specs.inner.Pairs.{InRange}
 use Rattle.run_laws.proofs.Steps.{step-in-range, step-passes}
-use Rattle.run_laws.specs.inner.Lines.{lineOf}
 use Rattle.run_laws.proofs.Actions.{StepAt, ExecutionAt, EndsAt, MoveMeans, act-final, act-means}
 
 -- ---- the steps that an ending adds

@@ -38,11 +38,6 @@ start-less s s′ h = inl (inl h)
 pub stem : ℕ → List ℕ → List ℕ
 stem s p = length p ∷ (lead s ++ p)
 
--- The stem in full.
-pub stem-is : (s : ℕ) (p : List ℕ) → stem s p ≡ length p ∷ s ∷ p
-unfolding stem lead
-stem-is s p = refl
-
 -- A shorter line has an earlier stem.
 pub stem-longer : (s s′ : ℕ) (p p′ : List ℕ) → length p < length p′ → stem s p ≺ stem s′ p′
 unfolding stem _≺_
@@ -96,6 +91,15 @@ tail e s f = e ∷ (trail s ▸ f)
 pub key : List ℕ → ℕ → ℕ → ℕ → List ℕ
 key p e s f = stem s p ++ tail e s f
 
+-- The key without the failure: what the check compares of a line and a start.
+pub lineRank : ℕ → List ℕ → ℕ → List ℕ
+lineRank s p e = stem s p ++ (e ∷ trail s)
+
+-- It is the line's length, the start, the kinds of the lamps and the kind of the end, in this order.
+pub line-rank-is : (s : ℕ) (p : List ℕ) (e : ℕ) → lineRank s p e ≡ length p ∷ s ∷ (p ++ (e ∷ []))
+unfolding lineRank stem lead trail
+line-rank-is s p e = refl
+
 -- The key of a line and a start, with the lowest end and no failure.
 abbrev pub lineKey : List ℕ → ℕ → List ℕ
 lineKey p s = key p 0 s 0
@@ -125,10 +129,23 @@ module _ (p p′ : List ℕ) (e e′ s s′ f f′ : ℕ) where
   pub key-stems : key p e s f ≼ key p′ e′ s′ f′ → (stem s p ≺ stem s′ p′) ⊎ (stem s p ≡ stem s′ p′)
   key-stems h = ⊎-elim (λ u. inl u) (λ (u, v). inr u) (key-cases h)
 
-  -- So their stems are in order.
-  pub key-stem-order : key p e s f ≼ key p′ e′ s′ f′ → stem s p ≼ stem s′ p′
-  key-stem-order h =
-      ⊎-elim (λ u. ≺→≼ _ _ u) (λ u. subst (λ (z : List ℕ). stem s p ≼ z) u (≼-refl (stem s p))) (key-stems h)
+  -- Without the failures they are in order as well.
+  pub key-line-order : key p e s f ≼ key p′ e′ s′ f′ → lineRank s p e ≼ lineRank s′ p′ e′
+  unfolding lineRank
+  key-line-order h = ⊎-elim by-stem (λ (u, v). by-tail u v) (key-cases h)
+    where
+      by-stem : stem s p ≺ stem s′ p′ → (stem s p ++ (e ∷ trail s)) ≼ (stem s′ p′ ++ (e′ ∷ trail s′))
+      by-stem u = ≺→≼ _ _ (≺-append (stem s p) (stem s′ p′) (e ∷ trail s) (e′ ∷ trail s′) u)
+
+      without-failure : tail e s f ≼ tail e′ s′ f′ → (e ∷ trail s) ≼ (e′ ∷ trail s′)
+      without-failure r = unfold tail in
+          ⊎-elim (λ u. ≺→≼ _ _ u) (λ (u, v). subst (λ (z : List ℕ). (e ∷ trail s) ≼ z) u (≼-refl (e ∷ trail s)))
+          (≼-split (e ∷ trail s) (e′ ∷ trail s′) (f ∷ []) (f′ ∷ []) (omega (arith, trail-length s s′)) r)
+
+      by-tail : stem s p ≡ stem s′ p′ → tail e s f ≼ tail e′ s′ f′ → (stem s p ++ (e ∷ trail s)) ≼ (stem s′ p′ ++ (e′ ∷ trail s′))
+      by-tail u r =
+          subst (λ (z : List ℕ). (stem s p ++ (e ∷ trail s)) ≼ (z ++ (e′ ∷ trail s′))) u
+          (≼-after (stem s p) (e ∷ trail s) (e′ ∷ trail s′) (without-failure r))
 
   -- If two keys are in order, the first line is not longer than the second.
   pub key-length : key p e s f ≼ key p′ e′ s′ f′ → length p ≤ length p′

@@ -1,10 +1,10 @@
 -- The buffers are large enough for every job, so the check's answer says what to print; its line fits.
 use borrow.Author.Needs.{needs}
 use mathlib.Core.Path.{_≡_, subst, _∙_}
-use mathlib.Core.List.{List, [], _∷_}
+use mathlib.Core.List.{List, [], _∷_, _++_}
 use Prim.Native.Nat.{ℕ}
 use native.Mathlib.Omega.{arith}
-use lib.ListN.{length, take}
+use lib.ListN.{length, take, length-append}
 use lib.Seq.{length-take-le}
 use Rattle.lamp_line.specs.Endings.{kindNumber}
 use Rattle.plan_check.specs.declared.CheckAnswer.{CheckAnswer}
@@ -100,9 +100,10 @@ returns-2 c =
     let line = lent-after p .line in
     let (printed, within) = failed-printed (file p) zeros (lent-after p) zeros-large failure (checked p (k .answer2 .given .1)) in
     let kinds = take (failure .lamps) line in
-    let fits = length-line failsText (kindNumber (failure .kind) ∷ failure .start .0 ∷ length kinds ∷ kinds) in
+    let rest = kinds ++ (failure .end ∷ []) in
+    let fits = length-line failsText (kindNumber (failure .kind) ∷ failure .start .0 ∷ length kinds ∷ rest) in
     let few = length-take-le (failure .lamps) line within in
-    answer-in (file p) _ (start p .args .out .now) _ _ (c .failed-line .ensures) (omega (arith, fits, few, within)) printed
+    answer-in (file p) _ (start p .args .out .now) _ _ (c .failed-line .ensures) (omega (arith, fits, length-append kinds (failure .end ∷ []), few, within)) printed
 
 returns-3 : tie.Need-returns-3
 returns-3 c =

@@ -9,9 +9,8 @@ use Prim.Native.Nat.{ℕ, zero, suc, _+_, _*_, _<_}
 use lib.Dec.{eqb, leb}
 use lib.ListN.{length}
 use Rattle.lamp_line.specs.declared.FailureKind.{FailureKind}
-use Rattle.lamp_line.specs.Tables.{Tables, worldState, lampColumn}
+use Rattle.lamp_line.specs.Tables.{Tables, worldState, lampColumn, lineOf}
 use Rattle.lamp_line.specs.Check.{Verdict, accepted, failed}
-use Rattle.run_laws.specs.inner.Lines.{lineOf}
 use Rattle.search_laws.specs.inner.Lists.{_▸_}
 use Rattle.search_laws.specs.inner.Entries.{Entry, entry, node, start, path, grown}
 use Rattle.check_laws.specs.inner.Fates.{NodeFate, succeeds, fails, arrives, AtEnds, good, bad, startNode, fate, atEnds}
@@ -88,7 +87,7 @@ module _ (t : Tables) where
   -- One label is tried at one place.
   unfoldable pub tried : List Entry → ℕ → ℕ → Turn
   tried E zero s = atStart E s (t .start (worldState s))
-  tried E (suc h) k = atLamp E h k (fate t (node E h) (lampColumn t k))
+  tried E (suc h) k = atLamp E h k (fate t (node E h) (lampColumn (t .ends) k))
 
   -- How many labels a place has.
   abbrev pub labels : ℕ → ℕ

@@ -22,17 +22,14 @@ is-outside-requires-5 c κs = search needs
 is-outside-requires-6 : tie.Need-is-outside-requires-6
 is-outside-requires-6 c κs = search needs
 
+column-count-requires : tie.Need-column-count-requires
+column-count-requires c κs = search needs
+
 shared-slice-read-is-outside : tie.Need-shared-slice-read-is-outside
 shared-slice-read-is-outside c = search needs
 
 is-outside-requires-7 : tie.Need-is-outside-requires-7
 is-outside-requires-7 c κs = search needs
-
-shared-slice-read-is-outside-2 : tie.Need-shared-slice-read-is-outside-2
-shared-slice-read-is-outside-2 c = search needs
-
-is-outside-requires-8 : tie.Need-is-outside-requires-8
-is-outside-requires-8 c κs = search needs
 
 returns : tie.Need-returns
 unfolding numberWrong
@@ -48,8 +45,7 @@ number-wrong-spec =
     is-outside-requires-4
     is-outside-requires-5
     is-outside-requires-6
+    column-count-requires
     shared-slice-read-is-outside
     is-outside-requires-7
-    shared-slice-read-is-outside-2
-    is-outside-requires-8
     returns)

@@ -10,15 +10,16 @@ use Rattle.plans.specs.Plan.{Action, Result}
 use Rattle.lamp_line.specs.declared.ProgramState.{ProgramState}
 use Rattle.lamp_line.specs.declared.WorldState.{WorldState}
 use Rattle.lamp_line.specs.Lists.{_∈_}
-use Rattle.lamp_line.specs.Tables.{outcome, Tables, movesOn, endKinds}
+use Rattle.lamp_line.specs.Tables.{outcome, Tables, movesOn, endKinds, columns}
 
 pub record WellFormed (t : Tables) : Type 0 where
   pub actions-range : (1 ≤ t .actions) × (t .actions ≤ 16)
   pub worlds-range : (1 ≤ t .worlds) × (t .worlds ≤ 64)
-  pub kinds-range : (1 ≤ t .kinds) × (t .kinds ≤ 15)
+  pub kinds-range : 1 ≤ t .kinds
   pub results-range : (1 ≤ t .results) × (t .results ≤ 8)
   pub states-range : t .states ≤ 64
   pub first-range : t .first .0 ≤ t .states
+  pub columns-range : columns (t .ends) (t .kinds) ≤ 16
   pub mark-range : (a : Action) → t .mark a ≤ 1
   -- a cell has at most one outcome
   pub single : (a : Action) (w : WorldState) (c : ℕ) → length (t .cell a w c) ≤ 1

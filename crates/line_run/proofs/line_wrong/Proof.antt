@@ -1,4 +1,4 @@
--- The two tests are the definition's.
+-- The three tests are the definition's.
 use borrow.Author.Needs.{needs}
 use Rattle.line_run.proofs.line_wrong.Statement.{statement}
 use Rattle.line_run.proofs.line_wrong.Tie as tie

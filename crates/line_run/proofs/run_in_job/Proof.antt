@@ -2,24 +2,25 @@
 use borrow.Author.Needs.{needs}
 use lib.ListN.{length}
 use Rattle.lamp_line.specs.Run.{pair}
-use Rattle.line_run.proofs.RunLoop.{Running, column-in, running-start, running-ends, running-at-lamp, running-passes, running-stopped, rest-shorter}
+use Rattle.job_tables.proofs.Ranges.{columns-few}
+use Rattle.line_run.proofs.RunLoop.{Running, running-kinds, running-column-in, running-start, running-ends, running-at-lamp, running-passes, running-stopped, rest-shorter}
 use Rattle.line_run.proofs.run_in_job.Statement.{statement}
 use Rattle.line_run.proofs.run_in_job.Tie as tie
 
 abbrev Inv-loop : tie.InvT-loop
-Inv-loop file job line limit rest₀ q₀ w₀ k₀ rest q w k = Running file job limit rest₀ (pair q₀ w₀) k rest (pair q w)
+Inv-loop file job line end limit rest₀ q₀ w₀ k₀ rest q w k = Running file job limit end rest₀ (pair q₀ w₀) k rest (pair q w)
 
 abbrev μ-loop : tie.MeasureT-loop
-μ-loop file job line limit rest₀ q₀ w₀ k₀ rest q w k = length rest
+μ-loop file job line end limit rest₀ q₀ w₀ k₀ rest q w k = length rest
 
 loop-holds : tie.Need-loop-holds Inv-loop μ-loop
 loop-holds c = search running-start
 
 column-of-requires : tie.Need-column-of-requires Inv-loop μ-loop
-column-of-requires c κs = search needs
+column-of-requires c κs = search (columns-few, running-kinds)
 
 walk-in-job-requires : tie.Need-walk-in-job-requires Inv-loop μ-loop
-walk-in-job-requires c κs = search (needs, column-in)
+walk-in-job-requires c κs = search (needs, running-column-in)
 
 enum-known-walked : tie.Need-enum-known-walked Inv-loop μ-loop
 enum-known-walked c = search needs

@@ -7,10 +7,10 @@ use Rattle.log_candidates.proofs.none_left.Statement.{statement}
 use Rattle.log_candidates.proofs.none_left.Tie as tie
 
 abbrev Inv-loop : tie.InvT-loop
-Inv-loop sets kinds columns c₀ c = (c ≤ columns) × (columns ≤ 16) × EmptyBelow sets c
+Inv-loop sets columns c₀ c = (c ≤ columns) × (columns ≤ 16) × EmptyBelow sets c
 
 abbrev μ-loop : tie.MeasureT-loop
-μ-loop sets kinds columns c₀ c = columns - c
+μ-loop sets columns c₀ c = columns - c
 
 column-count-requires : tie.Need-column-count-requires Inv-loop μ-loop
 column-count-requires c κs = search needs

@@ -33,13 +33,13 @@ pub record InWorlds (set worlds : ℕ) : Type 0 where
   pub below : (w : WorldState) → Has set w → w .0 < worlds
 
 -- The candidates that these words hold: at each column of the tables, the world states of its word.
-pub record Holds (kinds : ℕ) (sets : List ℕ) (w : WorldState) (c : ℕ) : Type 0 where
-  pub is-column : c < columns kinds
+pub record Holds (j : Job) (sets : List ℕ) (w : WorldState) (c : ℕ) : Type 0 where
+  pub is-column : c < columns (j .ends) (j .kinds)
   pub has : Has (getD sets c 0) w
 
 -- They are in world states of the job.
 pub record WorldsIn (j : Job) (sets : List ℕ) : Type 0 where
-  pub below : (w : WorldState) (c : ℕ) → Holds (j .kinds) sets w c → w .0 < j .worlds
+  pub below : (w : WorldState) (c : ℕ) → Holds j sets w c → w .0 < j .worlds
 
 -- The first n words are this one.
 pub record Filled (sets : List ℕ) (word n : ℕ) : Type 0 where
@@ -75,10 +75,10 @@ module _ (t : Tables) where
     pub led : (c : ℕ) → c < n → Adds (LedAt l before c) 0 (getD after c 0)
 
 -- The words hold these candidates.
-pub record HoldJust (kinds : ℕ) (Held : Candidates) (sets : List ℕ) : Type 0 where
-  pub holds : (w : WorldState) (c : ℕ) → Holds kinds sets w c ↔ Held w c
+pub record HoldJust (j : Job) (Held : Candidates) (sets : List ℕ) : Type 0 where
+  pub holds : (w : WorldState) (c : ℕ) → Holds j sets w c ↔ Held w c
 
 -- Whether no candidate is left.
-abbrev pub NoneLeft : ℕ → List ℕ → Bool → Type 0
-NoneLeft kinds sets true = (w : WorldState) (c : ℕ) → ¬ (Holds kinds sets w c)
-NoneLeft kinds sets false = (w : WorldState) × (c : ℕ) × Holds kinds sets w c
+abbrev pub NoneLeft : Job → List ℕ → Bool → Type 0
+NoneLeft j sets true = (w : WorldState) (c : ℕ) → ¬ (Holds j sets w c)
+NoneLeft j sets false = (w : WorldState) × (c : ℕ) × Holds j sets w c

@@ -28,7 +28,7 @@ module _ (t : Tables) where
 
   -- Before any entry: the marked starts, at every column.
   abbrev pub FirstCandidates : Candidates
-  FirstCandidates w c = (t .start w ≡ true) × (c < columns (t .kinds))
+  FirstCandidates w c = (t .start w ≡ true) × (c < columns (t .ends) (t .kinds))
 
   -- After one more entry: where its action leads with its result from some candidate. An action that moves on arrives at any column;
   -- any other stays at the candidate's.
@@ -37,7 +37,7 @@ module _ (t : Tables) where
     pub at : ℕ
     pub candidate : From world at
     pub leads : outcome w (resultOf l) ∈ t .cell (actionOf l) world at
-    pub is-column : c < columns (t .kinds)
+    pub is-column : c < columns (t .ends) (t .kinds)
     pub stays : movesOn t (actionOf l) ≡ false → c ≡ at
 
   -- What an entry needs to be made in the program state q from one of these candidates, and to lead to q′ and to w at column c.
@@ -66,6 +66,6 @@ module _ (t : Tables) where
     -- No execution that gives the log is anywhere else.
     pub all : {q′ : ProgramState} {w : WorldState} {rest : Line} → LeadsTo log q′ w rest → (q′ ≡ q) × Held w (column t rest)
     -- Candidates are at columns of the tables.
-    pub at-column : {w : WorldState} {c : ℕ} → Held w c → c < columns (t .kinds)
+    pub at-column : {w : WorldState} {c : ℕ} → Held w c → c < columns (t .ends) (t .kinds)
     -- There is a candidate.
     pub some-candidate : (w : WorldState) × (c : ℕ) × Held w c

@@ -1,5 +1,5 @@
 -- Each test of the entry is one that it needs.
-use Rattle.log_candidates.proofs.Holding.{few-columns}
+use Rattle.job_tables.proofs.Ranges.{columns-few}
 use Rattle.log_replay.proofs.FollowEntry.{stuck-acting, state-below, stuck-nowhere, branch-decides}
 use borrow.Author.Needs.{needs}
 use Rattle.log_replay.proofs.follow_entry.Statement.{statement}
@@ -15,7 +15,7 @@ advance-requires : tie.Need-advance-requires
 advance-requires c κs = search needs
 
 none-left-requires : tie.Need-none-left-requires
-none-left-requires c κs = (search few-columns, search needs)
+none-left-requires c κs = (search columns-few, search needs)
 
 same-length : tie.Need-same-length
 same-length c = search needs

@@ -9,6 +9,7 @@ use Rattle.plans.specs.Execution.{Label}
 use Rattle.lamp_line.specs.declared.ProgramState.{ProgramState}
 use Rattle.lamp_line.specs.Tables.{Tables}
 use Rattle.lamp_line.specs.Run.{isFinal}
+use Rattle.job_layout.specs.declared.Job.{Job}
 use Rattle.job_tables.specs.declared.Target.{Target}
 use Rattle.job_tables.specs.declared.Target.the-variants.{NoBranch, To}
 use Rattle.log_laws.specs.inner.Candidates.{Stuck, GoesOn}
@@ -20,6 +21,6 @@ actsSo t q a = not (isFinal t q) && eqb a (t .action q)
 
 -- What following an entry in this program state answers, and the words before and after it: none if it cannot be made; otherwise the
 -- program state to which it leads, and the words hold the candidates before and after.
-pub record Followed (t : Tables) (kinds : ℕ) (q : ProgramState) (l : Label) (target : Target) (before after : List ℕ) : Type 0 where
-  pub stuck : target ≡ NoBranch → Stuck t q (Holds kinds before) l
-  pub goes-on : (q′ : ProgramState) → target ≡ To q′ → GoesOn t q (Holds kinds before) l q′ (Holds kinds after)
+pub record Followed (t : Tables) (j : Job) (q : ProgramState) (l : Label) (target : Target) (before after : List ℕ) : Type 0 where
+  pub stuck : target ≡ NoBranch → Stuck t q (Holds j before) l
+  pub goes-on : (q′ : ProgramState) → target ≡ To q′ → GoesOn t q (Holds j before) l q′ (Holds j after)

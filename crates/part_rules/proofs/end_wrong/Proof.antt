@@ -1,4 +1,4 @@
--- No action that was passed moves on and is legal in column 0; the measure is the number of actions left.
+-- No action that was passed moves on and is legal at an end; the measure is the number of actions left.
 use borrow.Author.Needs.{needs}
 use native.Mathlib.Omega.{arith}
 use mathlib.Core.Path.{sym, _∙_}

@@ -1,19 +1,19 @@
--- In no world state that was passed is the action legal in column 0; the measure is the number of world states left.
+-- In no world state that was passed is the action legal at this end; the measure is the number of world states left.
 use borrow.Author.Needs.{needs}
 use native.Mathlib.Omega.{arith}
 use Prim.Native.Nat.{_-_}
 use borrow.Author.Tests.{eq-eqb, ne-eqb}
 use Rattle.lamp_line.proofs.Scan.{NoneYet, none-yet-start, none-yet-more, scan-finds, scan-ends}
-use Rattle.job_layout.specs.Rules.{legalAtEnd}
-use Rattle.job_layout.proofs.Bounds.{below-fits, result-in, column-zero-in}
+use Rattle.job_layout.specs.Rules.{legalAt}
+use Rattle.job_layout.proofs.Bounds.{below-fits, result-in, end-column-in}
 use Rattle.part_rules.proofs.legal_at_end.Statement.{statement}
 use Rattle.part_rules.proofs.legal_at_end.Tie as tie
 
 abbrev Inv-loop : tie.InvT-loop
-Inv-loop file job action worlds w₀ w = NoneYet (legalAtEnd file job action) worlds w
+Inv-loop file job action end worlds w₀ w = NoneYet (legalAt file job action end) worlds w
 
 abbrev μ-loop : tie.MeasureT-loop
-μ-loop file job action worlds w₀ w = worlds - w
+μ-loop file job action end worlds w₀ w = worlds - w
 
 loop-holds : tie.Need-loop-holds Inv-loop μ-loop
 loop-holds c = none-yet-start
@@ -22,10 +22,10 @@ next-place-requires : tie.Need-next-place-requires Inv-loop μ-loop
 next-place-requires c κs = search needs
 
 add-if1 : tie.Need-add-if1 Inv-loop μ-loop
-add-if1 c = search (below-fits, result-in, column-zero-in)
+add-if1 c = search (below-fits, result-in, end-column-in)
 
 shared-slice-read-if1 : tie.Need-shared-slice-read-if1 Inv-loop μ-loop
-shared-slice-read-if1 c = search (result-in, column-zero-in)
+shared-slice-read-if1 c = search (result-in, end-column-in)
 
 returns : tie.Need-returns Inv-loop μ-loop
 returns c =

@@ -20,7 +20,7 @@ use Rattle.plan_check.specs.ShortAnswers.{FailedUpTo}
 -- The search's finding with the same values; a failure as one record.
 abbrev pub outcomeOf : Found → Outcome
 outcomeOf (found.NoneFails count) = outcome.NoneFails count
-outcomeOf (found.Fails kind start lamps) = outcome.Fails (record { kind = kind; start = start; lamps = lamps })
+outcomeOf (found.Fails kind start lamps end) = outcome.Fails (record { kind = kind; start = start; lamps = lamps; end = end })
 
 -- No line of up to `longest` lamps fails, and the line buffer is as before. No job has more than 4,160 pairs, and no line that the search
 -- tries has more lamps than that: if it was allowed so many, the plan is accepted with this count.

@@ -5,7 +5,7 @@ use native.Mathlib.Omega.{arith}
 use Rattle.lamp_line.specs.Tables.{Tables, worldState}
 use Rattle.job_file.proofs.WellFormed.{tables-are, well-formed-by}
 use Rattle.plan_search.proofs.ListLaws.{pairs-few, count-fits}
-use Rattle.plan_search.proofs.Turns.{start-unmarked, start-marked, lamp-begins}
+use Rattle.plan_search.proofs.Turns.{start-unmarked, start-marked, lamp-column-small, lamp-begins}
 use Rattle.plan_search.proofs.last_stretch.Statement.{statement}
 use Rattle.plan_search.proofs.last_stretch.Tie as tie
 
@@ -19,6 +19,10 @@ start k = k .before .before .before
 abbrev at-first : tie.After-is-start → tie.Then1
 at-first i = i .before .before
 
+-- From the pair's world state to where the pair was read.
+abbrev at-unpack : tie.After-world → tie.After-unpack
+at-unpack w = w .before .before
+
 -- ---- the answers
 
 is-start-requires : tie.Need-is-start-requires
@@ -29,7 +33,7 @@ returns c =
     let i = c .before in
     let z = at-first i in
     let b = start (z .before) in
-    start-marked (z .if1 .taken) (well-formed-by _ _ (b .pre .0))
+    start-marked (z .if1 .taken) (well-formed-by _ _ (b .pre .0)) (b .pre .3)
     (sym (c .if2 .taken) ∙ i .is-start .ensures
     ∙ ap (λ (t : Tables). t .start (worldState (b .args .label))) (sym (tables-are _ _ (b .pre .0))))
 
@@ -59,12 +63,18 @@ shared-slice-read-unpack c =
 unpack-requires : tie.Need-unpack-requires
 unpack-requires c κs = search needs
 
+lamp-column-requires : tie.Need-lamp-column-requires
+lamp-column-requires c κs =
+    let e = at-unpack c .before .before in
+    let b = start (e .before) in
+    lamp-column-small (well-formed-by _ _ (b .pre .0)) (b .pre .2) (omega (arith, e .if1 .left))
+
 returns-3 : tie.Need-returns-3
 returns-3 c =
-    let u = c .before .before in
+    let u = at-unpack (c .before) in
     let e = u .before .before in
     let b = start (e .before) in
-    lamp-begins (b .pre .1) (b .pre .2) (omega (arith, e .if1 .left)) (u .unpack .ensures)
+    lamp-begins (b .pre .1) (b .pre .2) (omega (arith, e .if1 .left)) (u .unpack .ensures) (c .lamp-column .ensures)
 
 pub last-stretch-spec : {M : Type 1} → statement M
 last-stretch-spec =
@@ -77,4 +87,5 @@ last-stretch-spec =
     mul-unpack
     shared-slice-read-unpack
     unpack-requires
+    lamp-column-requires
     returns-3)

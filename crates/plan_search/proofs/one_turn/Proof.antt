@@ -63,8 +63,8 @@ mul-list c = omega (arith, few-pairs (new (at-new (at-number (c .before)))))
 slice-write-list : tie.Need-slice-write-list
 slice-write-list c = omega (arith, list-has-room (new (at-new (at-number (c .before)))))
 
-add-t24 : tie.Need-add-t24
-add-t24 c = omega (arith, few-pairs (new (at-new (at-number (c .before)))))
+add-t25 : tie.Need-add-t25
+add-t25 c = omega (arith, few-pairs (new (at-new (at-number (c .before)))))
 
 same-length : tie.Need-same-length
 same-length c = search needs
@@ -130,7 +130,7 @@ one-turn-spec =
     pack-requires
     mul-list
     slice-write-list
-    add-t24
+    add-t25
     same-length
     same-length-2
     same-length-3

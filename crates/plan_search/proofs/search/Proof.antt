@@ -48,8 +48,8 @@ write-line-requires c κs =
     let b = start p in
     writable (p .search-places .ensures) (h .halted2 .given .1) (ready-tables (b .pre .0)) (b .pre .1 .line-room)
 
-cast-t27 : tie.Need-cast-t27
-cast-t27 c =
+cast-t28 : tie.Need-cast-t28
+cast-t28 c =
     let h = at-failure (c .before .before .before) in
     let p = at-search (h .before .before) in
     omega (arith, lamps-few (p .search-places .ensures) (h .halted2 .given .1) (ready-tables (start p .pre .0)))
@@ -99,7 +99,7 @@ search-spec =
     slice-reshare-prefix-write-line
     slice-aggregate-write-line
     write-line-requires
-    cast-t27
+    cast-t28
     same-length
     same-length-2
     same-length-3

@@ -2,10 +2,11 @@
 -- answers and leaves.
 use mathlib.Core.Path.{_≡_}
 use mathlib.Core.List.{List}
+use mathlib.Core.Logic.{_≢_}
 use mathlib.Core.Bool.{false}
 use Prim.Native.Nat.{ℕ, suc, _+_, _*_, _≤_, _<_}
 use lib.ListN.{length, getD, take, drop}
-use Rattle.lamp_line.specs.Tables.{Tables, worldState, columns}
+use Rattle.lamp_line.specs.Tables.{Tables, worldState, columns, lineOf}
 use Rattle.lamp_line.specs.Run.{Pair, pair}
 use Rattle.lamp_line.specs.declared.FailureKind.{FailureKind}
 use Rattle.lamp_line.specs.declared.WorldState.{WorldState}
@@ -13,14 +14,13 @@ use Rattle.lamp_line.specs.Check.{accepted, failed}
 use Rattle.job_layout.specs.declared.Job.{Job}
 use Rattle.job_layout.specs.JobTables.{tablesBy}
 use Rattle.job_file.specs.Reading.{Opened}
-use Rattle.run_laws.specs.inner.Lines.{lineOf}
 use Rattle.run_laws.specs.inner.Pairs.{InRange, pairNumber, pairs}
 use Rattle.pair_bits.specs.inner.Bits.{bitAt, countTo}
 use Rattle.lamp_fates.specs.inner.Memory.{Memory}
 use Rattle.search_laws.specs.inner.Entries.{Entry, grown}
-use Rattle.check_laws.specs.inner.Fates.{fate}
+use Rattle.check_laws.specs.inner.Fates.{fate, atEnds}
 use Rattle.check_laws.specs.inner.Search as search
-use Rattle.check_laws.specs.inner.Search.{goes-on, met, failing, lineStart, lineLamps, lineEntry, firstLabel, visit, atLamp, tried, labels, Beyond, verdictOf}
+use Rattle.check_laws.specs.inner.Search.{goes-on, met, failing, lineStart, lineLamps, lineEntry, firstLabel, visited, visit, atLamp, tried, labels, Beyond, verdictOf}
 use Rattle.plan_search.specs.declared.Stretch.{Stretch}
 use Rattle.plan_search.specs.declared.Stretch.the-variants.{Nowhere, From}
 use Rattle.plan_search.specs.declared.Tried.{Tried}
@@ -64,27 +64,54 @@ pub record HasLabel (t : Tables) (n place label : ℕ) : Type 0 where
 -- ---- one label at one place
 
 -- Where the line that is tried goes on with the pair y: at its last lamp, which comes after the line of the entry h, or at its end.
-pub data Going (t : Tables) (E : List Entry) (place label y column : ℕ) : Type 0 where
-  at-lamp : (h : ℕ) → place ≡ suc h → 1 ≤ column → tried t E place label ≡ atLamp t E h label (fate t y column) →
-      Going t E place label y column
-  at-end : column ≡ 0 → tried t E place label ≡ visit t E (lineEntry E place label y) → Going t E place label y column
+pub data Going (t : Tables) (E : List Entry) (place label end y column : ℕ) : Type 0 where
+  at-lamp : (h : ℕ) → place ≡ suc h → t .ends < column → tried t E place label ≡ atLamp t E h label (fate t y column) →
+      Going t E place label end y column
+  at-end : column ≡ end → tried t E place label ≡ visit t E (lineEntry E place label y) → Going t E place label end y column
 
 -- The line goes on so with the pair p, which is one of the tables.
-pub record Goes (t : Tables) (E : List Entry) (place label : ℕ) (p : Pair) (column : ℕ) : Type 0 where
+pub record Goes (t : Tables) (E : List Entry) (place label end : ℕ) (p : Pair) (column : ℕ) : Type 0 where
   pub range : InRange t p
-  pub column-range : column < columns (t .kinds)
-  pub going : Going t E place label (pairNumber (t .worlds) p) column
+  pub column-range : column < columns (t .ends) (t .kinds)
+  pub going : Going t E place label end (pairNumber (t .worlds) p) column
 
 -- What the answer on the last stretch says of trying the line.
-abbrev BeginsSo : Tables → List Entry → ℕ → ℕ → Stretch → Type 0
-BeginsSo t E place label Nowhere = tried t E place label ≡ goes-on E
-BeginsSo t E place label (From state world column) = Goes t E place label (pair state world) column
+abbrev BeginsSo : Tables → List Entry → ℕ → ℕ → ℕ → Stretch → Type 0
+BeginsSo t E place label end Nowhere = tried t E place label ≡ goes-on E
+BeginsSo t E place label end (From state world column) = Goes t E place label end (pair state world) column
 
--- `last_stretch` answered r for this place and label.
-pub record Begins (t : Tables) (E : List Entry) (place label : ℕ) (r : Stretch) : Type 0 where
-  pub so : BeginsSo t E place label r
+-- `last_stretch` answered r for this place, label and end.
+pub record Begins (t : Tables) (E : List Entry) (place label end : ℕ) (r : Stretch) : Type 0 where
+  pub so : BeginsSo t E place label end r
 
--- The line reaches its end with a pair that was not met before, and does not fail there.
+-- The lower ends were tried: the line fails with none of them, and if there is one, the pair with which it reaches its end is new.
+pub record TriedBelow (t : Tables) (E : List Entry) (place label end : ℕ) : Type 0 where
+  pub none-fails :
+      (kind : FailureKind) (e : ℕ) → e < end → tried t E place label ≢ failing kind (lineStart E place label) (lineLamps E place label) e
+  pub some-new : 0 < end → tried t E place label ≢ goes-on E
+
+-- The line reaches its end with a pair that was not met before, and fails with none of the ends up to this one.
+pub record EndsSoFar (t : Tables) (E : List Entry) (place label end : ℕ) (words : List ℕ) (p : Pair) : Type 0 where
+  pub range : InRange t p
+  pub unmarked : bitAt words (pairNumber (t .worlds) p) ≡ false
+  pub visits :
+      tried t E place label
+      ≡ visited E (lineEntry E place label (pairNumber (t .worlds) p)) false (atEnds t (pairNumber (t .worlds) p))
+  pub tried-below : TriedBelow t E place label (end + 1)
+
+-- What the answer on a line with this end says of trying the line.
+abbrev TriesEndSo : Tables → List Entry → ℕ → ℕ → ℕ → List ℕ → Tried → Type 0
+TriesEndSo t E place label end words (tried-as.Fails kind e) =
+    tried t E place label ≡ failing kind (lineStart E place label) (lineLamps E place label) e
+TriesEndSo t E place label end words tried-as.Nothing = tried t E place label ≡ goes-on E
+TriesEndSo t E place label end words (tried-as.New state world) = EndsSoFar t E place label end words (pair state world)
+
+-- `try_end` answered r for this place, label and end, and the memory is still one of fates.
+pub record TriesEnd (t : Tables) (E : List Entry) (place label end : ℕ) (words : List ℕ) (r : Tried) (memory′ : List ℕ) : Type 0 where
+  pub so : TriesEndSo t E place label end words r
+  pub remembers : Memory t memory′
+
+-- The line reaches its end with a pair that was not met before, and fails with no kind of end.
 pub record EndsNew (t : Tables) (E : List Entry) (place label : ℕ) (words : List ℕ) (p : Pair) : Type 0 where
   pub range : InRange t p
   pub unmarked : bitAt words (pairNumber (t .worlds) p) ≡ false
@@ -92,8 +119,8 @@ pub record EndsNew (t : Tables) (E : List Entry) (place label : ℕ) (words : Li
 
 -- What the answer on a line says of trying it.
 abbrev TriesSo : Tables → List Entry → ℕ → ℕ → List ℕ → Tried → Type 0
-TriesSo t E place label words (tried-as.Fails kind) =
-    tried t E place label ≡ failing kind (lineStart E place label) (lineLamps E place label) 0
+TriesSo t E place label words (tried-as.Fails kind end) =
+    tried t E place label ≡ failing kind (lineStart E place label) (lineLamps E place label) end
 TriesSo t E place label words tried-as.Nothing = tried t E place label ≡ goes-on E
 TriesSo t E place label words (tried-as.New state world) = EndsNew t E place label words (pair state world)
 
@@ -104,12 +131,12 @@ pub record Tries (t : Tables) (E : List Entry) (place label : ℕ) (words : List
 
 -- A turn of the definition, by the function's answer: its line fails, or the list now holds m pairs.
 abbrev pub turnIs : Tables → TurnEnd → List Entry → ℕ → ℕ → List ℕ → search.Turn
-turnIs t (Fails kind) E place label list′ = failing kind (lineStart E place label) (lineLamps E place label) 0
+turnIs t (Fails kind end) E place label list′ = failing kind (lineStart E place label) (lineLamps E place label) end
 turnIs t (Holds m) E place label list′ = goes-on (table t list′ m)
 
 -- What a turn leaves: the list as it was, or a list of m pairs, with the bits that belong to it.
 abbrev pub Left : Tables → TurnEnd → ℕ → List ℕ → List ℕ → List ℕ → Type 0
-Left t (Fails kind) n list list′ words′ = list′ ≡ list
+Left t (Fails kind end) n list list′ words′ = list′ ≡ list
 Left t (Holds m) n list list′ words′ = (n ≤ m) × Listed t list′ words′ m
 
 -- `one_turn` answered r for this place and label.
@@ -122,12 +149,12 @@ pub record NoneMet (t : Tables) (longest count : ℕ) : Type 0 where
   pub none : Beyond longest (verdictOf t)
   pub all : pairs t ≤ longest → verdictOf t ≡ accepted count
 
--- The line that was tried at a place with a label fails, and it has this number of lamps. What is needed to read it off the list: it
--- holds n pairs, each found at place 0 or at the place of a pair before it, and the line's place is among theirs.
-pub record LineMet (t : Tables) (longest : ℕ) (kind : FailureKind) (list : List ℕ) (n place label lamps : ℕ) : Type 0 where
+-- The line that was tried at a place with a label fails, with this kind of end, and it has this number of lamps. What is needed to read it
+-- off the list: it holds n pairs, each found at place 0 or at the place of a pair before it, and the line's place is among theirs.
+pub record LineMet (t : Tables) (longest : ℕ) (kind : FailureKind) (end : ℕ) (list : List ℕ) (n place label lamps : ℕ) : Type 0 where
   pub verdict-is :
       verdictOf t
-      ≡ failed kind (worldState (lineStart (table t list n) place label)) (lineOf 0 (lineLamps (table t list n) place label))
+      ≡ failed kind (worldState (lineStart (table t list n) place label)) (lineOf end (lineLamps (table t list n) place label))
   pub lamps-are : lamps ≡ length (lineLamps (table t list n) place label)
   pub short : lamps ≤ longest
   pub within : place ≤ n
@@ -138,7 +165,7 @@ pub record LineMet (t : Tables) (longest : ℕ) (kind : FailureKind) (list : Lis
 -- What the answer of `search_places` says, with the list that it left.
 abbrev SearchedSo : Tables → ℕ → SearchEnd → List ℕ → Type 0
 SearchedSo t longest (NoneFails count) list = NoneMet t longest count
-SearchedSo t longest (AtLine kind n place label lamps) list = LineMet t longest kind list n place label lamps
+SearchedSo t longest (AtLine kind end n place label lamps) list = LineMet t longest kind end list n place label lamps
 
 -- `search_places` answered r and left this list.
 pub record Searched (t : Tables) (longest : ℕ) (r : SearchEnd) (list : List ℕ) : Type 0 where
@@ -152,20 +179,20 @@ pub record Room (t : Tables) (line list words : ℕ) : Type 0 where
   pub list-room : pairs t ≤ list
   pub words-room : pairs t ≤ words * 64
 
--- The failing line is at the front of the line buffer, and has at most `longest` lamps.
-pub record LineFound (t : Tables) (longest : ℕ) (kind : FailureKind) (start : WorldState) (lamps : ℕ) (line : List ℕ) : Type 0 where
-  pub verdict-is : verdictOf t ≡ failed kind start (lineOf 0 (take lamps line))
+-- The failing line has this kind of end and at most `longest` lamps, which are at the front of the line buffer.
+pub record LineFound (t : Tables) (longest : ℕ) (kind : FailureKind) (start : WorldState) (lamps end : ℕ) (line : List ℕ) : Type 0 where
+  pub verdict-is : verdictOf t ≡ failed kind start (lineOf end (take lamps line))
   pub short : lamps ≤ longest
 
 -- What was found, with the line buffer afterwards.
 abbrev pub FindsSo : Tables → ℕ → Found → List ℕ → Type 0
 FindsSo t longest (found.NoneFails count) line = NoneMet t longest count
-FindsSo t longest (found.Fails kind start lamps) line = LineFound t longest kind start lamps line
+FindsSo t longest (found.Fails kind start lamps end) line = LineFound t longest kind start lamps end line
 
 -- How many bytes of the line buffer are written.
 abbrev pub writtenBy : Found → ℕ
 writtenBy (found.NoneFails count) = 0
-writtenBy (found.Fails kind start lamps) = lamps
+writtenBy (found.Fails kind start lamps end) = lamps
 
 -- The answer is that of the search's definition, and the bytes of the line buffer after the line are as before.
 pub record Finds (t : Tables) (longest : ℕ) (r : Found) (line line′ : List ℕ) : Type 0 where

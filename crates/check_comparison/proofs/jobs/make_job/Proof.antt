@@ -16,8 +16,29 @@ abbrev μ-loop : tie.MeasureT-loop
 head-requires : tie.Need-head-requires Inv-loop μ-loop
 head-requires c κs = search needs
 
+ends-of-requires : tie.Need-ends-of-requires Inv-loop μ-loop
+ends-of-requires c κs = search needs
+
+cast-file : tie.Need-cast-file Inv-loop μ-loop
+cast-file c = search needs
+
+sub-file : tie.Need-sub-file Inv-loop μ-loop
+sub-file c = search needs
+
+array-write-file : tie.Need-array-write-file Inv-loop μ-loop
+array-write-file c = search needs
+
+ends-of-requires-2 : tie.Need-ends-of-requires-2 Inv-loop μ-loop
+ends-of-requires-2 c κs = search needs
+
+cast-file-2 : tie.Need-cast-file-2 Inv-loop μ-loop
+cast-file-2 c = search needs
+
+array-write-file-2 : tie.Need-array-write-file-2 Inv-loop μ-loop
+array-write-file-2 c = search needs
+
 loop-holds : tie.Need-loop-holds Inv-loop μ-loop
-loop-holds c = (omega arith, sym (c .head .ensures))
+loop-holds c = (omega arith, simp length-set (sym (c .before .before .head .ensures)))
 
 cast-table-byte : tie.Need-cast-table-byte Inv-loop μ-loop
 cast-table-byte c = search needs
@@ -25,8 +46,8 @@ cast-table-byte c = search needs
 table-byte-requires : tie.Need-table-byte-requires Inv-loop μ-loop
 table-byte-requires c κs = search needs
 
-array-write-file : tie.Need-array-write-file Inv-loop μ-loop
-array-write-file c = search needs
+array-write-file-3 : tie.Need-array-write-file-3 Inv-loop μ-loop
+array-write-file-3 c = search needs
 
 add-i : tie.Need-add-i Inv-loop μ-loop
 add-i c = search needs
@@ -47,10 +68,17 @@ make-job-spec =
     Inv-loop
     μ-loop
     head-requires
+    ends-of-requires
+    cast-file
+    sub-file
+    array-write-file
+    ends-of-requires-2
+    cast-file-2
+    array-write-file-2
     loop-holds
     cast-table-byte
     table-byte-requires
-    array-write-file
+    array-write-file-3
     add-i
     loop-less
     loop-again

@@ -1,14 +1,14 @@
--- The kinds are tried in order; the measure is the number of kinds left.
+-- The columns are tried in order; the measure is the number of columns left.
 use borrow.Author.Needs.{needs}
 use Prim.Native.Nat.{_≤_, _-_}
 use Rattle.check_comparison.proofs.plain_count.reach_from.Statement.{statement}
 use Rattle.check_comparison.proofs.plain_count.reach_from.Tie as tie
 
 abbrev Inv-loop : tie.InvT-loop
-Inv-loop file kinds reached₀ state world at new₀ kind₀ reached new kind = kind ≤ kinds
+Inv-loop file reached₀ state world at new₀ column₀ reached new column = column ≤ 16
 
 abbrev μ-loop : tie.MeasureT-loop
-μ-loop file kinds reached₀ state world at new₀ kind₀ reached new kind = kinds - kind
+μ-loop file reached₀ state world at new₀ column₀ reached new column = 16 - column
 
 place-requires : tie.Need-place-requires Inv-loop μ-loop
 place-requires c κs = search needs
@@ -22,11 +22,11 @@ returns c = search needs
 loop-holds : tie.Need-loop-holds Inv-loop μ-loop
 loop-holds c = search needs
 
-add-kind : tie.Need-add-kind Inv-loop μ-loop
-add-kind c = search needs
-
 reach-after-requires : tie.Need-reach-after-requires Inv-loop μ-loop
 reach-after-requires c κs = search needs
+
+add-column : tie.Need-add-column Inv-loop μ-loop
+add-column c = search needs
 
 loop-less : tie.Need-loop-less Inv-loop μ-loop
 loop-less c = search needs
@@ -47,8 +47,8 @@ reach-from-spec =
     element-copy-out-if1
     returns
     loop-holds
-    add-kind
     reach-after-requires
+    add-column
     loop-less
     loop-again
     returns-2)

@@ -8,10 +8,10 @@ use Rattle.check_comparison.proofs.plain_search.failing_line.Statement.
 use Rattle.check_comparison.proofs.plain_search.failing_line.Tie as tie
 
 abbrev Inv-loop : tie.InvT-loop
-Inv-loop file kinds start line₀ lines number₀ line number = (number ≤ lines) × (length line ≡ length line₀)
+Inv-loop file shape start line₀ lines number₀ line number = (number ≤ lines) × (length line ≡ length line₀)
 
 abbrev μ-loop : tie.MeasureT-loop
-μ-loop file kinds start line₀ lines number₀ line number = lines - number
+μ-loop file shape start line₀ lines number₀ line number = lines - number
 
 lines-of-requires : tie.Need-lines-of-requires Inv-loop μ-loop
 lines-of-requires c κs = search needs
@@ -19,8 +19,8 @@ lines-of-requires c κs = search needs
 loop-holds : tie.Need-loop-holds Inv-loop μ-loop
 loop-holds c = (omega arith, refl)
 
-run-end-requires : tie.Need-run-end-requires Inv-loop μ-loop
-run-end-requires c κs = search needs
+failing-end-requires : tie.Need-failing-end-requires Inv-loop μ-loop
+failing-end-requires c κs = search needs
 
 same-length : tie.Need-same-length Inv-loop μ-loop
 same-length c = search needs
@@ -54,7 +54,7 @@ failing-line-spec =
     μ-loop
     lines-of-requires
     loop-holds
-    run-end-requires
+    failing-end-requires
     same-length
     returns
     next-line-requires

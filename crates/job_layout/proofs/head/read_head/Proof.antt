@@ -21,6 +21,9 @@ shared-slice-read-t11 c = search needs
 shared-slice-read-t13 : tie.Need-shared-slice-read-t13
 shared-slice-read-t13 c = search needs
 
+shared-slice-read-t16 : tie.Need-shared-slice-read-t16
+shared-slice-read-t16 c = search needs
+
 read-part-requires : tie.Need-read-part-requires
 read-part-requires c κs = search needs
 
@@ -49,6 +52,7 @@ read-head-spec =
     shared-slice-read-t9
     shared-slice-read-t11
     shared-slice-read-t13
+    shared-slice-read-t16
     read-part-requires
     read-part-requires-2
     read-part-requires-3

@@ -3,23 +3,22 @@
 use mathlib.Core.Path.{_≡_, refl}
 use mathlib.Core.Bool.{Bool, true, false, cond}
 use mathlib.Core.List.{List, [], _∷_}
-use Prim.Native.Nat.{ℕ, _<_}
+use Prim.Native.Nat.{ℕ, _-_, _<_}
 use native.Mathlib.Decide.{decLt}
 use native.Mathlib.Omega.{arith}
 use Rattle.plans.specs.Execution.{Label, T*, here, join, step}
 use Rattle.lamp_line.specs.declared.ProgramState.{ProgramState}
-use Rattle.lamp_line.specs.Tables.{Tables, Line, Situation, Kinds, Fits, endKinds, lampColumn, columns, column, passed, movesOn, lampTheory, planOf}
-use Rattle.run_laws.specs.inner.Lines.{lineOf}
+use Rattle.lamp_line.specs.Tables.{Tables, Line, Situation, Kinds, Fits, endKinds, lampColumn, columns, column, passed, movesOn, lampTheory, planOf, lineOf}
 
 module _ (t : Tables) where
   column-below :
-      (end : ℕ) (lamps : List ℕ) → end < endKinds t → Kinds (t .kinds) lamps → column t (lineOf end lamps) < columns (t .kinds)
+      (end : ℕ) (lamps : List ℕ) → end < endKinds t → Kinds (t .kinds) lamps → column t (lineOf end lamps) < columns (t .ends) (t .kinds)
   unfolding endKinds lampColumn columns Kinds
   column-below end [] e k = omega arith
   column-below end (kind ∷ lamps) e k = omega (arith, k .1)
 
   -- A line of the job is at one of the columns.
-  pub column-is-below : {line : Line} → Fits t line → column t line < columns (t .kinds)
+  pub column-is-below : {line : Line} → Fits t line → column t line < columns (t .ends) (t .kinds)
   column-is-below {line} fits = column-below (line .end) (line .lamps) (fits .ended) (fits .of-kinds)
 
   -- Before a line there is a lamp, whose column is not an end's.
@@ -29,13 +28,13 @@ module _ (t : Tables) where
     pub is-column : column t line ≡ c
     pub is-rest : passed line ≡ rest
 
-  pub lamp-before : {rest : Line} {c : ℕ} → Fits t rest → c < columns (t .kinds) → ¬ (c < endKinds t) → LampBefore rest c
+  pub lamp-before : {rest : Line} {c : ℕ} → Fits t rest → c < columns (t .ends) (t .kinds) → ¬ (c < endKinds t) → LampBefore rest c
   unfolding endKinds lampColumn columns Kinds
   lamp-before {rest} {c} fits c< not-end =
       record {
-        line = lineOf (rest .end) (c ∷ rest .lamps);
+        line = lineOf (rest .end) ((c - t .ends) ∷ rest .lamps);
         fits = record { of-kinds = (omega arith, omega arith, fits .of-kinds); ended = fits .ended };
-        is-column = refl;
+        is-column = omega arith;
         is-rest = refl;
       }
 
@@ -49,16 +48,17 @@ module _ (t : Tables) where
   unfolding Kinds
   empty-line is-end = record { of-kinds = tt; ended = is-end }
 
-  some-end : 0 < endKinds t
+  -- There is a kind of end.
+  pub some-end : 0 < endKinds t
   unfolding endKinds
   some-end = omega arith
 
   -- There is a column.
-  pub some-column : 0 < columns (t .kinds)
+  pub some-column : 0 < columns (t .ends) (t .kinds)
   some-column = column-is-below (empty-line some-end)
 
   -- Each column is that of some line.
-  pub line-at : {c : ℕ} → c < columns (t .kinds) → LineAt c
+  pub line-at : {c : ℕ} → c < columns (t .ends) (t .kinds) → LineAt c
   line-at {c} c< = by (decLt c (endKinds t))
     where
       by : Dec (c < endKinds t) → LineAt c

@@ -1,0 +1,106 @@
+-- A file in which byte 6 is 0 is as before request (c).
+use mathlib.Core.Path.{_≡_, refl, ap, _∙_}
+use mathlib.Core.Logic.{_↔_, inl, inr, ⊎-elim}
+use mathlib.Core.Bool.{Bool, true, false, _||_, _&&_, or-true}
+use mathlib.Core.List.{List, [], _∷_, _++_}
+use Prim.Native.Nat.{ℕ, _+_, _*_, _<_}
+use native.Mathlib.Decide.{decLt}
+use native.Mathlib.Omega.{arith}
+use borrow.Author.Tests.{lt-ltb, le-ltb}
+use lib.Dec.{eqb, ltb}
+use lib.ListN.{length}
+use Rattle.lamp_line.specs.declared.WorldState.{WorldState}
+use Rattle.lamp_line.specs.Lists.{_≼_}
+use Rattle.lamp_line.specs.Tables.{endKinds, lampColumn, columns, columnOf}
+use Rattle.lamp_line.specs.Refusals.{some-below}
+use Rattle.lamp_line.specs.Check.{rank}
+use Rattle.job_layout.specs.Layout.{byte, head, markPlace}
+use Rattle.job_layout.specs.Rules.{outside, numberWrong, differs, legalAtEnd}
+use Rattle.job_layout.specs.OneEndKind.{columnBefore, OneEndKindAsBefore}
+
+-- There is one column more than there are kinds.
+columns-before : (ends kinds : ℕ) → ends ≡ 0 → columns ends kinds ≡ kinds + 1
+unfolding columns
+columns-before ends kinds none = omega arith
+
+-- A lamp's column is its kind.
+column-before : (ends : ℕ) → ends ≡ 0 → (lamps : List ℕ) → columnOf ends 0 lamps ≡ columnBefore lamps
+unfolding lampColumn
+column-before ends none [] = refl
+column-before ends none (kind ∷ lamps) = omega arith
+
+-- ---- refusal 2
+
+-- More than 16 columns are more than 15 kinds.
+kinds-decide : (ends kinds six : ℕ) → ends ≡ 0 → six ≡ 0 → (a b c d : Bool) →
+    (a || outside 1 15 kinds || b || c || d || ltb 16 (columns ends kinds)) ≡ (a || outside 1 15 kinds || b || c || d || outside 0 0 six)
+kinds-decide ends kinds six none is a b c d = by (decLt 15 kinds)
+  where
+    by : Dec (15 < kinds) →
+        (a || outside 1 15 kinds || b || c || d || ltb 16 (columns ends kinds)) ≡ (a || outside 1 15 kinds || b || c || d || outside 0 0 six)
+    by (yes many) = rw (lt-ltb 15 kinds many, or-true (ltb kinds 1), or-true a)
+    by (no few) =
+        rw (columns-before ends kinds none, le-ltb 16 (kinds + 1) (omega arith), is)
+
+-- ---- refusal 7
+
+-- One end is the lowest.
+some-below-one : (test : ℕ → Bool) (n : ℕ) → n ≡ 1 → some-below n test ≡ test 0
+unfolding some-below
+some-below-one test n one = rw one (at (test 0))
+  where
+    at : (b : Bool) → (b || false) ≡ b
+    at true = refl
+    at false = refl
+
+-- ---- the order
+
+-- Lists of the same length are in order with one number added to both exactly when they are in order.
+snoc-order : (e : ℕ) (l m : List ℕ) → length l ≡ length m → ((l ++ (e ∷ [])) ≼ (m ++ (e ∷ []))) ↔ (l ≼ m)
+unfolding _≼_
+snoc-order e [] [] same = (λ h. tt, λ h. inr (refl, tt))
+snoc-order e [] (b ∷ m) same = absurd (omega arith)
+snoc-order e (a ∷ l) [] same = absurd (omega arith)
+snoc-order e (a ∷ l) (b ∷ m) same =
+    let rest = snoc-order e l m (omega arith) in (
+      λ h. ⊎-elim (λ less. inl less) (λ (equal, h). inr (equal, rest .0 h)) h,
+      λ h. ⊎-elim (λ less. inl less) (λ (equal, h). inr (equal, rest .1 h)) h,
+    )
+
+order-before :
+    (start start′ : WorldState) (lamps lamps′ : List ℕ) →
+    ((length lamps ∷ start .0 ∷ (lamps ++ (0 ∷ []))) ≼ (length lamps′ ∷ start′ .0 ∷ (lamps′ ++ (0 ∷ []))))
+    ↔ ((length lamps ∷ start .0 ∷ lamps) ≼ (length lamps′ ∷ start′ .0 ∷ lamps′))
+unfolding _≼_
+order-before start start′ lamps lamps′ = (
+  λ h. ⊎-elim (λ less. inl less)
+      (λ (same, h). inr (same, ⊎-elim (λ less. inl less) (λ (equal, h). inr (equal, snoc-order 0 lamps lamps′ same .0 h)) h)) h,
+  λ h. ⊎-elim (λ less. inl less)
+      (λ (same, h). inr (same, ⊎-elim (λ less. inl less) (λ (equal, h). inr (equal, snoc-order 0 lamps lamps′ same .1 h)) h)) h,
+)
+
+-- ---- the file
+
+pub one-end-kind-as-before : OneEndKindAsBefore
+unfolding endKinds rank numberWrong
+one-end-kind-as-before s none =
+    let count : columns (head s .ends) (head s .kinds) ≡ head s .kinds + 1 = columns-before (byte s 6) (head s .kinds) none in
+    record {
+      one-end = omega arith;
+      cells-length = rw count;
+      goal-length = rw count;
+      cell-place = λ a w c. rw count;
+      goal-place = λ w c. rw count;
+      refusal-2 =
+          ap (λ (b : Bool). b || outside 0 0 (byte s 7))
+          (kinds-decide (byte s 6) (head s .kinds) (byte s 6) none none (outside 1 16 (head s .actions) || outside 1 64 (head s .worlds))
+          (outside 1 8 (head s .results)) (outside 0 64 (head s .states)) (outside 0 (head s .states) (head s .first .0)));
+      refusal-7 = λ a.
+          ap (λ (b : Bool). eqb (byte s (markPlace (head s) a)) 1 && b)
+          (some-below-one (legalAtEnd s (head s) a) (byte s 6 + 1) (omega arith)
+          ∙ ap (λ (n : ℕ). some-below (head s .worlds) (λ w. differs (byte s (head s .cells .offset + 2 * ((a * head s .worlds + w) * n + 0) + 1)) 255))
+          count);
+      lines-end = λ line fits. omega (arith, fits .ended);
+      line-column = λ lamps. column-before (byte s 6) none lamps;
+      order = λ start start′ lamps lamps′. order-before start start′ lamps lamps′;
+    }

@@ -1,0 +1,229 @@
+/*
+ * Line ends of several kinds (02, (c)): a job of three, with each of its numbers at its edges, and jobs on which another order of
+ * failing lines would name another one. Each check also stands against all lines.
+ */
+#include "brute.h"
+#include "cases.h"
+
+static const uint8_t line[] = {1, 2};
+
+static void expect_failed(const char *what, uint64_t wanted, const uint8_t *lamps)
+{
+    expect(what, expect_as_brute(), wanted);
+    expect(what, memcmp(lent.line, lamps, nessflurry_lamps_of(wanted)) == 0, true);
+}
+
+/* ---- Three end kinds: actions 0 look, 1 next, 2 seal, 3 set the fuse ---- */
+
+enum { CAP, JOINT_BOX, FUSE_BOX, THREE };
+
+static void take_three(void)
+{
+    three_ends_job(&job);
+    write_job();
+}
+
+static void three_ends(void)
+{
+    const uint16_t numbers[NESSFLURRY_HEAD_SIZE] = {4, 3, 2, 4, 4, 0, 2, 28, 4, 32, 120, 152, 3, 155, 15, 170, 20};
+    uint16_t head[NESSFLURRY_HEAD_SIZE];
+    take_three();
+    expect("size of three ends", file.size, 190);
+    expect("the reader on three ends", plain_read(file.bytes, file.size, head), ending(NESSFLURRY_DONE, 0));
+    expect("the reader's numbers of three ends", memcmp(head, numbers, sizeof head) == 0, true);
+    expect("three ends", expect_as_brute(), ending(NESSFLURRY_ACCEPTED, 1));
+    expect_run("no lamp, a cap", line, 0, CAP, UINT32_MAX, ending(NESSFLURRY_GOAL, 1));
+    expect_run("no lamp, a joint box", line, 0, JOINT_BOX, UINT32_MAX, ending(NESSFLURRY_GOAL, 2));
+    expect_run("two lamps, a cap", line, 2, CAP, UINT32_MAX, ending(NESSFLURRY_GOAL, 5));
+    expect_run("two lamps, a fuse box", line, 2, FUSE_BOX, UINT32_MAX, ending(NESSFLURRY_GOAL, 6));
+    expect_run("two lamps, a fuse box, limit 5", line, 2, FUSE_BOX, 5, ending(NESSFLURRY_STOPPED, 5));
+}
+
+/* Failures at one end kind, on the empty line; and one at a lamp, which comes with every end kind and is told with the lowest. */
+static void three_ends_failing(void)
+{
+    take_three();
+    job.target[0][JOINT_BOX] = NONE;
+    write_job();
+    expect_failed("no branch for a joint box", failing(NESSFLURRY_NO_BRANCH, 0, 0, JOINT_BOX), line);
+    job.target[0][JOINT_BOX] = 3;
+    write_job();
+    expect_failed("a fuse set in a joint box", failing(NESSFLURRY_NOT_LEGAL, 0, 0, JOINT_BOX), line);
+    take_three();
+    job.target[0][FUSE_BOX] = 0;
+    write_job();
+    expect_failed("a fuse box looked at for ever", failing(NESSFLURRY_CIRCLES, 0, 0, FUSE_BOX), line);
+    job.target[0][FUSE_BOX] = 4;
+    write_job();
+    expect_failed("a fuse not set", failing(NESSFLURRY_GOAL_FALSE, 0, 0, FUSE_BOX), line);
+    take_three();
+    job.cells[1][0][THREE - 1 + 2] = (struct cell){0, NONE};
+    write_job();
+    expect_failed("kind 2 cannot be passed", failing(NESSFLURRY_NOT_LEGAL, 0, 1, CAP), line + 1);
+    expect_run("kind 2 cannot be passed, a fuse box", line + 1, 1, FUSE_BOX, 9, ending(NESSFLURRY_NOT_LEGAL, 1));
+}
+
+static void three_ends_refused(void)
+{
+    take_three();
+    for (unsigned end = THREE; end <= 255; end++)
+        expect_run("an end kind not below E", line, 2, (uint8_t)end, 9, refused(15));
+    expect("walk, column E + C", plain_walk(file.bytes, file.size, 0, 0, THREE + 2), refused(15));
+    expect("walk, column E + C - 1", plain_walk(file.bytes, file.size, 0, 0, THREE - 1 + 2), ending(NESSFLURRY_ARRIVED, 2));
+    expect("walk, column E - 1", plain_walk(file.bytes, file.size, 0, 0, FUSE_BOX), ending(NESSFLURRY_GOAL, 2));
+    expect("kind 3 of two", plain_run(file.bytes, file.size, 0, (const uint8_t[]){THREE}, 1, 0, 9), refused(15));
+    for (unsigned world = 0; world < 3; world++)
+        for (unsigned end = 0; end < THREE; end++) {
+            take_three();
+            job.cells[1][world][end] = (struct cell){0, 0};
+            write_job();
+            expect_refused_file("an end passed", 7);
+        }
+}
+
+/* It is told the end by the result alone. */
+static void three_ends_cabinet(void)
+{
+    take_three();
+    expect("begin before an end", plain_begin(file.bytes, file.size, 0), cabinet(0, 0, 0));
+    expect("a fuse box", plain_report(file.bytes, file.size, 0, 0, FUSE_BOX), cabinet(0, 3, 0));
+    expect("the action for it", plain_action(file.bytes, file.size, 3, 0), cabinet(0, 3, 0));
+    expect("the fuse set", plain_report(file.bytes, file.size, 3, 0, 0), cabinet(0, 4, 0));
+    expect("an end passed by a cabinet", plain_report(file.bytes, file.size, 1, 0, 0), cabinet(19, 1, 0));
+}
+
+/* Its file with one byte changed, in lengths and in the last cell and goal: place, byte, refusal. */
+static void three_ends_damaged(void)
+{
+    static const uint8_t one_defect[][3] = {
+        {14, 119, 4}, {14, 118, 4}, {14, 72, 4}, {22, 14, 4}, {22, 9, 4}, {150, 1, 6}, {151, 4, 6}, {169, 2, 9},
+    };
+    for (size_t i = 0; i < sizeof one_defect / sizeof one_defect[0]; i++) {
+        take_three();
+        file.bytes[one_defect[i][0]] = one_defect[i][1];
+        expect_refused_file("three ends with a byte changed", one_defect[i][2]);
+    }
+}
+
+/* The last end kind, byte 6, and C, byte 2, with the lengths of three end kinds and two lamp kinds. */
+static void expect_refused_columns(uint8_t last_end, uint8_t kinds, unsigned refusal)
+{
+    take_three();
+    file.bytes[6] = last_end;
+    file.bytes[2] = kinds;
+    expect_refused_file("other numbers of columns", refusal);
+}
+
+static void columns(void)
+{
+    for (unsigned last_end = 14; last_end <= 255; last_end++)
+        expect_refused_columns((uint8_t)last_end, 2, 2);
+    for (uint8_t last_end = 0; last_end <= 13; last_end++)
+        if (last_end != FUSE_BOX)
+            expect_refused_columns(last_end, 2, 4);
+    expect_refused_columns(15, 1, 2);
+    expect_refused_columns(14, 1, 4);
+    expect_refused_columns(1, 15, 2);
+    expect_refused_columns(0, 15, 4);
+    expect_refused_columns(0, 16, 2);
+    expect_refused_columns(2, 14, 2);
+    expect_refused_columns(2, 13, 4);
+    expect_refused_columns(3, 1, 7); /* as many columns: kind 1 becomes an end, where next is legal */
+}
+
+/* ---- The order of failing lines ---- */
+
+/* The first state is the final one, and the goal is true where the bytes by world and column say so. Every world is a start. */
+static void take_final(uint8_t worlds, uint8_t kinds, uint8_t ends, const uint8_t *goal)
+{
+    job = (struct job){.actions = 1, .worlds = worlds, .kinds = kinds, .results = 1, .last_end = ends - 1};
+    memset(job.starts, 1, worlds);
+    for (unsigned world = 0; world < worlds; world++)
+        memcpy(job.goal[world], goal + world * columns_of(&job), columns_of(&job));
+    write_job();
+}
+
+/* Where the end kind were compared before the lamps or the start, a line with end kind 0 would come first. */
+static void lamps_and_start_first(void)
+{
+    const uint8_t higher[] = {1, 0, 1}, shorter[] = {1, 0, 0}, both[] = {0, 0, 1}, starts[] = {1, 0, 1, 0, 1, 1};
+    take_final(1, 1, 2, higher);
+    expect_failed("end kind 1 alone", failing(NESSFLURRY_GOAL_FALSE, 0, 0, 1), line);
+    take_final(1, 1, 2, shorter);
+    expect_failed("end kind 1, or a lamp", failing(NESSFLURRY_GOAL_FALSE, 0, 0, 1), line);
+    take_final(1, 1, 2, both);
+    expect_failed("both end kinds", failing(NESSFLURRY_GOAL_FALSE, 0, 0, 0), line);
+    take_final(2, 1, 2, starts);
+    expect_failed("start 0 with end kind 1, start 1 with 0", failing(NESSFLURRY_GOAL_FALSE, 0, 0, 1), line);
+}
+
+/* State 0 looks, and ends the plan at an end; state 1 moves on, which makes the lamp's kind the world. */
+static void take_kinds_as_worlds(void)
+{
+    job = (struct job){.actions = 2, .worlds = 3, .kinds = 2, .results = 2, .states = 2, .last_end = 1};
+    job.marks[1] = job.starts[0] = 1;
+    memset(job.goal, 1, sizeof job.goal);
+    for (uint8_t world = 0; world < 3; world++)
+        for (uint8_t column = 0; column < columns_of(&job); column++) {
+            const bool end = is_end(&job, column);
+            job.cells[0][world][column] = (struct cell){world, !end};
+            job.cells[1][world][column] = end ? (struct cell){0, NONE} : (struct cell){column - job.last_end, 0};
+        }
+    job.target[0][0] = 2;
+    job.target[0][1] = job.action[1] = 1;
+    job.target[1][1] = NONE;
+}
+
+/* Where the end kind were compared before the kinds, kind 2 would come first. */
+static void kinds_first(void)
+{
+    take_kinds_as_worlds();
+    job.goal[1][1] = job.goal[2][0] = 0;
+    write_job();
+    expect_failed("kind 1 with end kind 1, kind 2 with 0", failing(NESSFLURRY_GOAL_FALSE, 0, 1, 1), line);
+    expect_run("kind 1 with end kind 0", line, 1, 0, 9, ending(NESSFLURRY_GOAL, 3));
+    take_kinds_as_worlds();
+    job.goal[2][0] = job.goal[2][1] = 0;
+    write_job();
+    expect_failed("kind 2 with both end kinds", failing(NESSFLURRY_GOAL_FALSE, 0, 1, 0), line + 1);
+}
+
+/* Every end kind alone, with as many lamp kinds as there may be. */
+static void each_end(void)
+{
+    for (uint8_t ends = 1; ends <= MOST_ENDS; ends++)
+        for (uint8_t end = 0; end < ends; end++) {
+            uint8_t goal[MOST_COLUMNS];
+            memset(goal, 1, sizeof goal);
+            goal[end] = 0;
+            take_final(1, MOST_COLUMNS - ends, ends, goal);
+            expect_failed("one end kind of many", failing(NESSFLURRY_GOAL_FALSE, 0, 0, end), line);
+        }
+}
+
+/* The lamp of the highest kind alone: its column is the last. */
+static void highest_kind(void)
+{
+    for (uint8_t ends = 1; ends <= MOST_ENDS; ends++) {
+        const uint8_t kind = MOST_COLUMNS - ends;
+        uint8_t goal[MOST_COLUMNS];
+        memset(goal, 1, sizeof goal);
+        goal[MOST_COLUMNS - 1] = 0;
+        take_final(1, kind, ends, goal);
+        expect_failed("the highest kind of many", failing(NESSFLURRY_GOAL_FALSE, 0, 1, 0), &kind);
+    }
+}
+
+void end_kind_cases(void)
+{
+    three_ends();
+    three_ends_failing();
+    three_ends_cabinet();
+    three_ends_refused();
+    three_ends_damaged();
+    columns();
+    lamps_and_start_first();
+    kinds_first();
+    each_end();
+    highest_kind();
+}
