@@ -1,7 +1,7 @@
--- Laws of pairs as numbers, and what the fate of a pair says about the one-lamp walk.
+-- The numbers of failures, and what the fate of a pair says about the one-lamp walk.
 use mathlib.Core.Path.{_≡_, refl, sym, ap, _∙_}
 use mathlib.Core.Bool.{true, cond}
-use Prim.Native.Nat.{ℕ, zero, suc, _+_, _*_, _<_}
+use Prim.Native.Nat.{ℕ, zero, suc, _<_}
 use native.Mathlib.Decide.{ℕ-discrete}
 use native.Mathlib.Omega.{arith}
 use borrow.Author.Tests.{eq-eqb}
@@ -13,12 +13,12 @@ use Rattle.lamp_line.specs.Tables.{Tables}
 use Rattle.lamp_line.specs.Endings.{kindNumber}
 use Rattle.lamp_line.specs.Run.{Pair, Walk, ended, arrived, isFinal, judged, walk, lampWalk}
 use Rattle.run_laws.specs.inner.Pairs.{InRange, pairNumber}
-use Rattle.run_laws.proofs.Pairs.{pair-of-number, pair-number-bound}
+use Rattle.run_laws.proofs.Pairs.{pair-of-number}
 use Rattle.run_laws.proofs.Actions.{act-final}
 use Rattle.run_laws.proofs.Walks.{walk-spent, walk-ends}
 use Rattle.check_laws.specs.inner.Fates.{fails, arrives, fateOf, fate}
 
--- ---- numbers of failures and of pairs
+-- ---- numbers of failures
 
 -- Failure kinds with the same number are equal.
 pub kind-number-injective : (kind kind′ : FailureKind) → kindNumber kind ≡ kindNumber kind′ → kind ≡ kind′
@@ -50,12 +50,6 @@ module _ (worlds : ℕ) where
   arrives-walk y (arrived p k) e = (p, k, refl, cc)
 
 module _ (t : Tables) where
-  -- The pairs of the tables have numbers below (S + 1)·W.
-  pub number-bound : (p : Pair) → InRange t p → pairNumber (t .worlds) p < (t .states + 1) * t .worlds
-  number-bound p range =
-      let h : p .state .0 < t .states + 1 = omega (arith, range .state-range) in
-      pair-number-bound (t .states + 1) (t .worlds) p h (range .world-range)
-
   -- The fate of a pair of the tables, by its number, is the fate that its walk gives.
   pub fate-of-pair :
       (p : Pair) (c : ℕ) → InRange t p → fate t (pairNumber (t .worlds) p) c ≡ fateOf (t .worlds) (lampWalk t p c)

@@ -3,18 +3,19 @@
 use mathlib.Core.Path.{_≡_, refl, subst, _∙_}
 use mathlib.Core.Logic.{_⊎_, inl, inr}
 use mathlib.Core.Bool.{Bool, true, false}
-use mathlib.Core.List.{List, [], _∷_}
+use mathlib.Core.List.{List, []}
 use Prim.Native.Nat.{ℕ, zero, suc, _+_, _*_, _-_, _≤_, _<_}
 use native.Mathlib.Numerals.{add-one}
 use native.Mathlib.Omega.{arith}
 use borrow.Author.Tests.{leb-true}
 use lib.Dec.{leb}
-use lib.ListN.{length, length-append}
+use lib.ListN.{length}
 use Rattle.lamp_line.specs.declared.FailureKind.{FailureKind}
 use Rattle.lamp_line.specs.Tables.{Tables, worldState, lampColumn, lineOf}
 use Rattle.lamp_line.specs.Check.{Verdict, failed}
 use Rattle.search_laws.specs.inner.Lists.{_▸_}
 use Rattle.search_laws.specs.inner.Entries.{Entry, node, path, grown}
+use Rattle.search_laws.proofs.Graph.{snoc-length}
 use Rattle.search_laws.proofs.Grown.{grown-length, grown-all, still-at}
 use Rattle.check_laws.specs.inner.Fates.{NodeFate, succeeds, fails, arrives, AtEnds, good, bad, fate, atEnds}
 use Rattle.check_laws.specs.inner.Search.{Turn, answers, goes-on, andThen, conclusion, Beyond, met, lineStart, lineLamps, lineEntry}
@@ -66,9 +67,6 @@ module _ (t : Tables) where
 abbrev LongFrom : ℕ → ℕ → List Entry → Type 0
 LongFrom m h E = (i : ℕ) → h ≤ i → i < length E → m ≤ length (path E i)
 
-one-longer : (l : List ℕ) (k : ℕ) → length (l ▸ k) ≡ length l + 1
-one-longer l k = omega (arith, length-append l (k ∷ []))
-
 module _ (t : Tables) (m : ℕ) where
   -- The entry h is in the table, and it and the later ones have at least m lamps.
   abbrev Long : ℕ → List Entry → Type 0
@@ -79,7 +77,7 @@ module _ (t : Tables) (m : ℕ) where
   tried-long E h k (there, long) = go (tried t E (suc h) k) (tried-so t E (suc h) k)
     where
       more : m < length (path E h ▸ k)
-      more = omega (arith, long h (omega arith) there, one-longer (path E h) k)
+      more = omega (arith, long h (omega arith) there, snoc-length (path E h) k)
 
       go : (r : Turn) → Owes (IsTriedLine E (suc h) k) (GrownBy E (suc h) k) r → Owes (Beyond m) (Long h) r
       go (answers v) (kind, end, e) = rw e more
@@ -158,7 +156,7 @@ module _ {E : List Entry} {h last lamps : ℕ} (layer : Layer E h last lamps) wh
     where
       go : (i : ℕ) → h ≡ i → length (lineLamps E i k) ≡ lamps
       go zero e = omega (arith, layer .few)
-      go (suc i) e = one-longer (path E i) k ∙ layer .to-try i (omega arith) (omega (arith, layer .within))
+      go (suc i) e = snoc-length (path E i) k ∙ layer .to-try i (omega arith) (omega (arith, layer .within))
 
   -- Another label is tried at the place.
   pub layer-tried : (t : Tables) (k : ℕ) {E′ : List Entry} → tried t E h k ≡ goes-on E′ → Layer E′ h last lamps

@@ -1,19 +1,19 @@
 -- The results of the search are right answers of the check: its least failing line is the counterexample; and if no line fails, the
 -- plan is correct and the entries of the table are the reached pairs.
-use mathlib.Core.Path.{_≡_, refl, sym, ap, subst, _∙_}
+use mathlib.Core.Path.{_≡_, sym, ap, subst, _∙_}
+use mathlib.Core.Logic.{⊎-elim}
 use mathlib.Core.List.{List, [], map}
 use Prim.Native.Nat.{ℕ, _+_, _*_, _≤_, _<_}
 use native.Mathlib.Omega.{arith}
 use lib.ListN.{length, length-map}
-use Rattle.plans.specs.Execution.{Label, T*, Correct}
+use Rattle.plans.specs.Execution.{T*, Correct}
 use Rattle.lamp_line.specs.declared.FailureKind.{FailureKind}
-use Rattle.lamp_line.specs.declared.Ending.the-variants.{Goal, Failure}
 use Rattle.lamp_line.specs.Lists.{_∈_}
-use Rattle.lamp_line.specs.Tables.{Tables, Situation, worldState, final, lampTheory, lampProblem, planOf, lineOf}
+use Rattle.lamp_line.specs.Tables.{Tables, worldState, lampTheory, lampProblem, planOf, lineOf}
 use Rattle.lamp_line.specs.inner.WellFormed.{WellFormed}
 use Rattle.lamp_line.specs.Endings.{kindNumber, Ends, Leads}
 use Rattle.lamp_line.specs.Check.{rank, Counterexample, Reached, Accepts}
-use Rattle.lamp_line.specs.Run.{Pair, Run, ran, run}
+use Rattle.lamp_line.specs.Run.{Pair}
 use Rattle.run_laws.specs.inner.Pairs.{pairNumber, pairOf}
 use Rattle.run_laws.proofs.Steps.{execution-in-range}
 use Rattle.search_laws.proofs.Keys.{line-rank-is, key-line-order}
@@ -24,7 +24,7 @@ use Rattle.search_laws.proofs.Shortness.{least-short}
 use Rattle.search_laws.proofs.Turns.{At, accepted, reached-in-table}
 use Rattle.run_laws.proofs.Pairs.{pair-of-number}
 use Rattle.check_laws.proofs.TableGraph.{graph, PairNumber, start-in-range, start-numbered, coded}
-use Rattle.check_laws.proofs.RunLeads.{run-leads}
+use Rattle.check_laws.proofs.RunLeads.{goal-or-fails}
 use Rattle.check_laws.proofs.FailingLines.{fails-in-graph, graph-fails}
 use Rattle.check_laws.proofs.ReachedPairs.{reached-in-graph, graph-reached}
 use Rattle.check_laws.proofs.Counting.{at-place-in, in-at-place, distinct-by-places}
@@ -51,18 +51,13 @@ module _ (t : Tables) (wf : WellFormed t) where
   none-fails-correct :
       ((s : ℕ) (l : List ℕ) (e f : ℕ) → ¬ (FailsFrom (graph t) s l e f)) → Correct (lampProblem t) (planOf t)
   unfolding Correct Leads Ends
-  none-fails-correct none s of = go (run t (s .world) (s .rest)) refl
-    where
-      go :
-          (r : Run) → run t (s .world) (s .rest) ≡ r →
-          (ls : List Label) × (s′ : Situation) × T* (lampTheory t) (planOf t) ls (t .first) s (final t) s′ × lampProblem t .Goal s′
-      go (ran Goal k) e =
-          let (ls, q, s′, execution, (is-final, goal)) = run-leads t wf (s .world) (s .rest) of Goal (k, e) in
-          (ls, s′, subst (λ q. T* (lampTheory t) (planOf t) ls (t .first) s q s′) is-final execution, goal)
-      go (ran (Failure kind) k) e =
-          let leads = run-leads t wf (s .world) (s .rest) of (Failure kind) (k, e) in
-          absurd (none (s .world .0) (s .rest .lamps) (s .rest .end) (kindNumber kind)
-          (fails-in-graph t wf kind (s .world) (s .rest) (record { beginning = of; leads = leads })))
+  none-fails-correct none s of =
+      ⊎-elim
+      (λ (ls, q, s′, execution, (is-final, goal)).
+      (ls, s′, subst (λ q. T* (lampTheory t) (planOf t) ls (t .first) s q s′) is-final execution, goal))
+      (λ (kind, d).
+      absurd (none (s .world .0) (s .rest .lamps) (s .rest .end) (kindNumber kind) (fails-in-graph t wf kind (s .world) (s .rest) d)))
+      (goal-or-fails t wf (s .world) (s .rest) of)
 
   -- ---- the table of a search that is complete
 

@@ -1,17 +1,19 @@
--- The run of a line has an ending exactly when the execution leads to this ending, whatever the number of steps.
+-- The run of a line has an ending exactly when the execution leads to this ending, whatever the number of steps. So every execution
+-- reaches the goal or fails.
 use mathlib.Core.Path.{_≡_, refl}
+use mathlib.Core.Logic.{_⊎_, inl, inr}
 use Prim.Native.Nat.{ℕ, _+_}
 use lib.ListN.{length}
 use Rattle.lamp_line.specs.declared.WorldState.{WorldState}
+use Rattle.lamp_line.specs.declared.FailureKind.{FailureKind}
 use Rattle.lamp_line.specs.declared.FailureKind.the-variants.{NotLegal, NoBranch, Circles, GoalFalse}
 use Rattle.lamp_line.specs.declared.Ending.{Ending}
 use Rattle.lamp_line.specs.declared.Ending.the-variants.{Goal, Failure}
-use Rattle.lamp_line.specs.Tables.{Tables, Line, lampProblem, planOf}
+use Rattle.lamp_line.specs.Tables.{Tables, Line, Beginning, lampProblem, planOf}
 use Rattle.lamp_line.specs.inner.WellFormed.{WellFormed}
 use Rattle.lamp_line.specs.Endings.{Rests, Leads}
-use Rattle.lamp_line.specs.Check.{situation}
-use Rattle.lamp_line.specs.Run.{ran, ownSteps, run}
-use Rattle.lamp_line.specs.Tables.{Beginning}
+use Rattle.lamp_line.specs.Check.{situation, Fails}
+use Rattle.lamp_line.specs.Run.{Run, ran, ownSteps, run}
 use Rattle.lamp_line.specs.Executions.{RestsAfter, Comes}
 use Rattle.run_laws.proofs.RunIsExecution.{run-is-execution, circles-forever}
 
@@ -52,3 +54,14 @@ module _ (t : Tables) (wf : WellFormed t) (start : WorldState) (line : Line) (of
   run-leads (Failure NoBranch) (k, e) = after-rests (run-is-execution t wf start line of (Failure NoBranch) k .0 e)
   run-leads (Failure Circles) h = circles-forever t wf start line of .0 h
   run-leads (Failure GoalFalse) (k, e) = after-rests (run-is-execution t wf start line of (Failure GoalFalse) k .0 e)
+
+  -- The execution of a line reaches the goal or fails.
+  pub goal-or-fails :
+      Leads (lampProblem t) (planOf t) Goal (t .first) (situation start line) ⊎ ((kind : FailureKind) × Fails t kind start line)
+  goal-or-fails = go (run t start line) refl
+    where
+      go :
+          (r : Run) → run t start line ≡ r →
+          Leads (lampProblem t) (planOf t) Goal (t .first) (situation start line) ⊎ ((kind : FailureKind) × Fails t kind start line)
+      go (ran Goal k) e = inl (run-leads Goal (k, e))
+      go (ran (Failure kind) k) e = inr (kind, record { beginning = of; leads = run-leads (Failure kind) (k, e) })

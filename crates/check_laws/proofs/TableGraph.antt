@@ -10,12 +10,12 @@ use Rattle.lamp_line.specs.inner.WellFormed.{WellFormed}
 use Rattle.lamp_line.specs.Endings.{kindNumber}
 use Rattle.lamp_line.specs.Run.{Pair, pair, lampWalk}
 use Rattle.run_laws.specs.inner.Pairs.{InRange, pairNumber, pairOf}
-use Rattle.run_laws.proofs.Pairs.{pair-number-bound, pair-number-injective}
+use Rattle.run_laws.proofs.Pairs.{pair-number-bound, pair-number-in, pair-number-injective}
 use Rattle.run_laws.proofs.Walks.{arrived-in-range}
 use Rattle.search_laws.specs.inner.Graph.{Graph, Plain}
 use Rattle.search_laws.proofs.Shortness.{Coded}
 use Rattle.check_laws.specs.inner.Fates.{fails, arrives, startNode, fate}
-use Rattle.check_laws.proofs.FateLaws.{number-bound, fate-of-pair, arrives-walk, arrived-not-final}
+use Rattle.check_laws.proofs.FateLaws.{fate-of-pair, arrives-walk, arrived-not-final}
 
 module _ (t : Tables) where
   -- The pair fails at the column, and this is the number of its failure kind.
@@ -79,7 +79,7 @@ module _ (t : Tables) where
 
     -- The starts begin at numbers below (S + 1)·W.
     pub start-bound : (s x : ℕ) → graph .Start s x → x < (t .states + 1) * t .worlds
-    start-bound s x (m, e) = rw e (number-bound t (pair (t .first) (worldState s)) (start-in-range (worldState s) m))
+    start-bound s x (m, e) = rw e (pair-number-in t (pair (t .first) (worldState s)) (start-in-range (worldState s) m))
 
     -- The edges lead to numbers below (S + 1)·W.
     pub to-bound : (x c y : ℕ) → graph .To x c y → y < (t .states + 1) * t .worlds
@@ -87,7 +87,7 @@ module _ (t : Tables) where
     to-bound x c y to =
         let p = pairOf (t .worlds) x in
         let (p′, k, e, n) = arrives-walk (t .worlds) y (lampWalk t p (lampColumn (t .ends) c)) to in
-        rw n (number-bound t p′ (arrived-in-range t wf (t .states * t .worlds) p p′ (lampColumn (t .ends) c) k (sym e)))
+        rw n (pair-number-in t p′ (arrived-in-range t wf (t .states * t .worlds) p p′ (lampColumn (t .ends) c) k (sym e)))
 
     -- The starts begin at numbers of pairs of the tables.
     pub start-numbered : (s x : ℕ) → graph .Start s x → PairNumber x

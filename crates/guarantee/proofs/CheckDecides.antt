@@ -1,7 +1,7 @@
 -- The check decides: it accepts exactly the correct plans, the lines that fail are exactly those whose execution misses the goal, and its
 -- answer and the line buffer depend only on what is handed in.
 use mathlib.Core.Path.{_≡_, refl, sym, ap, ap₂, _∙_}
-use mathlib.Core.Logic.{_⊎_, inl, inr, ⊎-elim}
+use mathlib.Core.Logic.{⊎-elim}
 use mathlib.Core.Option.{Option, none, some}
 use mathlib.Core.List.{List, [], _++_}
 use Prim.Native.Nat.{ℕ}
@@ -10,13 +10,10 @@ use lib.ListN.{length, take, drop, take-append-drop}
 use lib.Seq.{length-take-le}
 use Rattle.lamp_line.specs.declared.WorldState.{WorldState}
 use Rattle.lamp_line.specs.declared.FailureKind.{FailureKind}
-use Rattle.lamp_line.specs.declared.Ending.the-variants.{Goal, Failure}
-use Rattle.lamp_line.specs.Tables.{Tables, Line, lineOf, Beginning, lampProblem, planOf}
+use Rattle.lamp_line.specs.Tables.{Tables, Line, lineOf}
 use Rattle.lamp_line.specs.inner.WellFormed.{WellFormed}
-use Rattle.lamp_line.specs.Endings.{Leads}
-use Rattle.lamp_line.specs.Run.{Run, ran, run}
-use Rattle.lamp_line.specs.Check.{situation, Fails, Verdict, accepted, failed, Right}
-use Rattle.check_laws.proofs.RunLeads.{run-leads}
+use Rattle.lamp_line.specs.Check.{Verdict, accepted, failed, Right}
+use Rattle.check_laws.proofs.RunLeads.{goal-or-fails}
 use Rattle.check_laws.proofs.OneVerdict.{goal-not-fails, correct-never-fails, right-once}
 use Rattle.job_layout.specs.Layout.{head}
 use Rattle.job_layout.specs.JobTables.{tablesOf}
@@ -29,19 +26,6 @@ use Rattle.plan_check.specs.CheckAnswers.{failedLine, AnsweredRight, Lent, Chec
 use Rattle.guarantee.specs.CheckPromises.{AcceptedExactly, FailsExactly, SameChecks, CheckDetermined}
 
 -- ---- exactly when
-
--- On each line, the execution reaches the goal or fails.
-pub goal-or-fails :
-    (t : Tables) → WellFormed t → (start : WorldState) (line : Line) → Beginning t start line →
-    Leads (lampProblem t) (planOf t) Goal (t .first) (situation start line) ⊎ ((kind : FailureKind) × Fails t kind start line)
-goal-or-fails t wf start line beginning = go (run t start line) refl
-  where
-    go :
-        (r : Run) → run t start line ≡ r →
-        Leads (lampProblem t) (planOf t) Goal (t .first) (situation start line) ⊎ ((kind : FailureKind) × Fails t kind start line)
-    go (ran Goal k) e = inl (run-leads t wf start line beginning Goal (k, e))
-    go (ran (Failure kind) k) e =
-        inr (kind, record { beginning = beginning; leads = run-leads t wf start line beginning (Failure kind) (k, e) })
 
 pub fails-exactly : FailsExactly
 fails-exactly s j opened start line beginning = (

@@ -14,6 +14,7 @@ use Rattle.lamp_line.specs.inner.WellFormed.{WellFormed}
 use Rattle.lamp_line.specs.Endings.{Ends, Leads}
 use Rattle.lamp_line.specs.Check.{failed, Right}
 use Rattle.lamp_line.specs.ShortCheck.{NoneUpTo}
+use Rattle.check_laws.proofs.RunLeads.{goal-or-fails}
 use Rattle.check_laws.proofs.OneVerdict.{goal-not-fails, correct-never-fails}
 use Rattle.check_laws.proofs.UpTo.{beyond-exactly, far-enough}
 use Rattle.job_layout.specs.Layout.{head}
@@ -31,7 +32,7 @@ use Rattle.plan_check.specs.ShortAnswers.{AnsweredUpTo, CheckedUpTo}
 use Rattle.guarantee.specs.CheckPromises.{SameChecks}
 use Rattle.guarantee.specs.ShortCheckPromises.{AsFull, ShortAsFull, FailedAsFull, ShortDetermined, GoalUpTo, NoneExactly, NoneRuns, NoneServed, FarEnough}
 use Rattle.guarantee.proofs.CheckMeans.{none-means}
-use Rattle.guarantee.proofs.CheckDecides.{goal-or-fails, answered-once}
+use Rattle.guarantee.proofs.CheckDecides.{answered-once}
 use Rattle.guarantee.proofs.RunsAfterCheck.{run-ends}
 use Rattle.guarantee.proofs.CabinetServed.{goal-served}
 

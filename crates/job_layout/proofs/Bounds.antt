@@ -11,7 +11,7 @@ use mir.Val.{Fits}
 use Rattle.plans.specs.Plan.{Action, Result}
 use Rattle.lamp_line.specs.declared.ProgramState.{ProgramState}
 use Rattle.lamp_line.specs.declared.WorldState.{WorldState}
-use Rattle.lamp_line.specs.Tables.{columns, lampColumn}
+use Rattle.lamp_line.specs.Tables.{columns}
 use Rattle.lamp_line.proofs.Products.{product-le}
 use Rattle.job_layout.specs.declared.Job.{Job}
 use Rattle.job_layout.specs.inner.Laid.{Laid}
@@ -24,16 +24,6 @@ pub cell-fits :
 cell-fits action worlds world columns a w x c =
     let rows = product-le 255 255 action worlds a w in
     product-le 65280 65535 (action * worlds + world) columns (omega arith) c
-
--- The column of an end is one of the columns.
-pub end-column-in : (ends kinds end : ℕ) → end < ends + 1 → end < columns ends kinds
-unfolding columns
-end-column-in ends kinds end is-end = omega arith
-
--- So is the column of a lamp.
-pub lamp-column-in : (ends kinds kind : ℕ) → kind ≤ kinds → lampColumn ends kind < columns ends kinds
-unfolding columns lampColumn
-lamp-column-in ends kinds kind is-kind = omega arith
 
 -- What is below the length of a slice fits 64 bits.
 pub below-fits : (n m : ℕ) → n < m → m < 2 ^ 64 → Fits w64 n

@@ -1,7 +1,7 @@
 -- A memory in which nothing is known yet, and how large a memory has to be.
 use mathlib.Core.Path.{_≡_}
 use mathlib.Core.Logic.{inl}
-use Prim.Native.Nat.{ℕ, _+_, _≤_, _<_}
+use Prim.Native.Nat.{ℕ, _≤_, _<_}
 use native.Mathlib.Decide.{decLt}
 use native.Mathlib.Omega.{arith}
 use lib.ListN.{getD, replicate, getD-replicate, length-replicate, List·getD-eq-default}
@@ -10,6 +10,7 @@ use Rattle.lamp_line.specs.inner.WellFormed.{WellFormed}
 use Rattle.lamp_line.proofs.Products.{product-le}
 use Rattle.lamp_fates.specs.inner.Memory.{memorySize, Memory}
 use Rattle.run_laws.specs.inner.Pairs.{pairs}
+use Rattle.run_laws.proofs.Pairs.{pairs-few}
 
 -- An entry of a list of zeros is 0.
 blank : (n i : ℕ) → getD (replicate {A = ℕ} n 0) i 0 ≡ 0
@@ -27,11 +28,6 @@ blank-memory t n enough =
       unknown-or-right = λ p column range c<. inl (blank n _);
     }
 
--- There are at most 65 times 64 pairs.
-pub pairs-most : {t : Tables} → WellFormed t → pairs t ≤ 4160
-pairs-most {t} wf =
-    product-le 65 64 (t .states + 1) (t .worlds) (omega (arith, wf .states-range)) (wf .worlds-range .1)
-
 -- There are at most 16 columns, each with an entry for every pair.
 pub entries-most : {t : Tables} → WellFormed t → memorySize t ≤ 66560
-entries-most {t} wf = product-le 16 4160 (columns (t .ends) (t .kinds)) (pairs t) (wf .columns-range) (pairs-most wf)
+entries-most {t} wf = product-le 16 4160 (columns (t .ends) (t .kinds)) (pairs t) (wf .columns-range) (pairs-few wf)

@@ -31,11 +31,11 @@ use Rattle.fate_laws.proofs.Stretches.{stretch-more}
 use Rattle.fate_laws.proofs.StepFates.{ends-fate, passes-fate, circle-fate}
 use Rattle.lamp_fates.specs.inner.Memory.{pairCode, fateEntry, entryPlace, remembered, Memory}
 use Rattle.lamp_fates.specs.inner.Links.{Asked, After, Stands, Linked, WalkedTo}
-use Rattle.lamp_fates.proofs.BlankMemory.{pairs-most, entries-most}
+use Rattle.lamp_fates.proofs.BlankMemory.{entries-most}
 use Rattle.lamp_fates.proofs.Entries.{fate-below}
 use Rattle.lamp_fates.proofs.LinkLaws.{within, told, same-fate, link-left}
 use Rattle.lamp_fates.proofs.Places.{place-below, place-in}
-use Rattle.run_laws.proofs.Pairs.{pair-number-in}
+use Rattle.run_laws.proofs.Pairs.{pairs-few, pair-number-in}
 use Rattle.lamp_fates.proofs.Tally.{tally, tally-falls}
 
 -- The walk from the first pair is at p, and has left links at all pairs before it. Its tables are those by the job that the reader
@@ -120,7 +120,7 @@ module _ {s : List ℕ} {j : Job} {first : Pair} {column : ℕ} where
 
           -- It has a small number, so that a link can name it.
           pub next-small : {number : ℕ} → number ≡ pairNumber (j .worlds) (pair q w) → number < 4160
-          next-small e = omega (arith, e, pair-number-in t (pair q w) next-within, pairs-most (asked .well-formed))
+          next-small e = omega (arith, e, pair-number-in t (pair q w) next-within, pairs-few (asked .well-formed))
 
           -- It leads to the final state: the goal decides.
           pub walked-final :

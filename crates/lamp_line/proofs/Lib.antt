@@ -1,4 +1,5 @@
 pub mod Answering
+pub mod Columns
 pub mod Examples
 pub mod Products
 pub mod Scan

@@ -15,6 +15,7 @@ use Rattle.lamp_line.specs.declared.Ending.{Ending}
 use Rattle.lamp_line.specs.Tables.{Tables, Line, lineOf, endKinds, lampColumn, columns, columnOf, column, Kinds, Fits}
 use Rattle.lamp_line.specs.Refusals.{some-of}
 use Rattle.lamp_line.specs.Run.{Pair, pair, arrived, ran, lampWalk, along, run, limited}
+use Rattle.lamp_line.proofs.Columns.{lamp-column-in}
 use Rattle.run_laws.specs.inner.Pairs.{InRange}
 use Rattle.run_laws.proofs.Columns.{column-is-below}
 use Rattle.run_laws.proofs.Walks.{arrived-in-range, arrived-at-lamp}
@@ -22,7 +23,6 @@ use Rattle.run_laws.proofs.LoopLaws.{RunOwes, run-owes-start, run-owes-passes, 
 use Rattle.job_layout.specs.declared.Job.{Job}
 use Rattle.job_layout.specs.JobTables.{tablesBy, tablesOf}
 use Rattle.job_layout.specs.Rules.{outside}
-use Rattle.job_layout.proofs.Bounds.{lamp-column-in}
 use Rattle.head_rules.proofs.HeadLaws.{neither}
 use Rattle.job_file.specs.Reading.{Opened}
 use Rattle.line_run.specs.RunAnswers.{lineWrong}

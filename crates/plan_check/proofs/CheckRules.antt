@@ -31,7 +31,7 @@ use Rattle.lamp_fates.proofs.BlankMemory.{entries-most}
 use Rattle.plan_search.specs.declared.Found.{Found}
 use Rattle.plan_search.specs.declared.Found.the-variants as found
 use Rattle.plan_search.specs.inner.Searching.{Room, Finds}
-use Rattle.plan_search.proofs.ListLaws.{pairs-few}
+use Rattle.run_laws.proofs.Pairs.{pairs-few}
 use Rattle.plan_check.specs.declared.Outcome.{Outcome}
 use Rattle.plan_check.specs.declared.Outcome.the-variants as outcome
 use Rattle.plan_check.specs.CheckAnswers.{Lent, CheckedBy}

@@ -1,8 +1,3 @@
-pub mod EntryLaws
-pub mod LineLoops
-pub mod ListLaws
 pub mod Naming
 pub mod NewPairs
 pub mod SearchLoops
-pub mod TryingEnds
-pub mod Turns

@@ -16,9 +16,10 @@ use Rattle.check_laws.proofs.VerdictRight.{failing-short}
 use Rattle.plan_search.specs.declared.SearchEnd.{SearchEnd}
 use Rattle.plan_search.specs.declared.SearchEnd.the-variants.{NoneFails, AtLine}
 use Rattle.plan_search.specs.declared.Found.the-variants as found
-use Rattle.plan_search.specs.inner.Placing.{entries, Chained, Written}
-use Rattle.plan_search.specs.inner.Searching.{table, LineMet, Searched, Finds}
-use Rattle.plan_search.proofs.LineLoops.{same-lamps}
+use Rattle.working_list.specs.inner.Placing.{entries, Chained, Written}
+use Rattle.working_list.specs.inner.Listing.{table}
+use Rattle.plan_search.specs.inner.Searching.{LineMet, Searched, Finds}
+use Rattle.working_list.proofs.LineLoops.{same-lamps}
 
 -- No line fails: nothing is written.
 pub finds-none :

@@ -12,24 +12,27 @@ use Rattle.lamp_line.specs.Tables.{Tables, columns}
 use Rattle.lamp_line.specs.inner.WellFormed.{WellFormed}
 use Rattle.lamp_line.specs.Run.{pair}
 use Rattle.run_laws.specs.inner.Pairs.{InRange, pairNumber, pairs}
+use Rattle.run_laws.proofs.Pairs.{pairs-few, pair-number-in}
 use Rattle.job_layout.specs.declared.Job.{Job}
 use Rattle.job_layout.specs.JobTables.{tablesBy}
 use Rattle.pair_bits.specs.inner.Bits.{bitAt, OnlySet}
 use Rattle.pair_bits.proofs.Counts.{count-one}
 use Rattle.search_laws.specs.inner.Entries.{grown}
 use Rattle.check_laws.specs.inner.Search.{goes-on, met}
-use Rattle.check_laws.proofs.FateLaws.{number-bound}
 use Rattle.check_laws.proofs.MetPairs.{met-new, met-other}
 use Rattle.check_laws.proofs.SearchRest.{first-place-label, first-place-labels, later-place-label, later-place-labels}
-use Rattle.plan_search.specs.declared.Placed.{Placed}
-use Rattle.plan_search.specs.declared.Tried.{Tried}
-use Rattle.plan_search.specs.declared.Tried.the-variants as tried-as
+use Rattle.working_list.specs.declared.Placed.{Placed}
+use Rattle.line_trial.specs.declared.Tried.{Tried}
+use Rattle.line_trial.specs.declared.Tried.the-variants as tried-as
 use Rattle.plan_search.specs.declared.TurnEnd.the-variants.{Holds}
-use Rattle.plan_search.specs.inner.Placing.{packed, unpacked, placedPair, placedEntry}
-use Rattle.plan_search.specs.inner.Searching.{table, Listed, Ready, HasLabel, EndsNew, Tries, Turned}
-use Rattle.plan_search.proofs.EntryLaws.{unpacked-packed, entries-stored}
-use Rattle.plan_search.proofs.ListLaws.{ready-tables, pairs-few, room-left}
-use Rattle.plan_search.proofs.Turns.{tries-new}
+use Rattle.working_list.specs.inner.Placing.{packed, unpacked, placedPair, placedEntry}
+use Rattle.working_list.specs.inner.Listing.{table, Listed}
+use Rattle.line_trial.specs.inner.Trials.{Ready, HasLabel, EndsNew, TriesLine}
+use Rattle.plan_search.specs.inner.Searching.{Turned}
+use Rattle.working_list.proofs.EntryLaws.{unpacked-packed, entries-stored}
+use Rattle.working_list.proofs.ListLaws.{room-left}
+use Rattle.line_trial.proofs.TryingEnds.{ready-tables}
+use Rattle.line_trial.proofs.LineTried.{tries-new}
 
 -- Labels are starts, of which there are at most 64, or kinds, of which there are at most 15.
 pub label-small : {t : Tables} {n place label : ℕ} → WellFormed t → HasLabel t n place label → label < 64
@@ -60,7 +63,7 @@ pub new-pair :
     {s : List ℕ} {j : Job} {memory list words : List ℕ} {n place label : ℕ} {state : ProgramState} {world : WorldState} {r : Tried}
     {memory′ : List ℕ} →
     Ready s j memory × Listed (tablesBy s j) list words n × HasLabel (tablesBy s j) n place label →
-    Tries (tablesBy s j) (table (tablesBy s j) list n) place label words r memory′ → r ≡ tried-as.New state world →
+    TriesLine (tablesBy s j) (table (tablesBy s j) list n) place label words r memory′ → r ≡ tried-as.New state world →
     NewPair (tablesBy s j) list words n place label state world
 new-pair asked tries e =
     record { well-formed = ready-tables (asked .0); listed = asked .1; here = asked .2; comes = tries-new tries e }
@@ -75,7 +78,7 @@ module _
   placed = record { state = state; world = world; place = place; label = label }
 
   y-bound : y < pairs t
-  y-bound = number-bound t (pair state world) (new .comes .range)
+  y-bound = pair-number-in t (pair state world) (new .comes .range)
 
   some-left : n < pairs t
   some-left = room-left (new .listed) y y-bound (new .comes .unmarked)

@@ -15,6 +15,7 @@ use Rattle.job_layout.specs.JobTables.{tablesBy}
 use Rattle.pair_bits.specs.inner.Bits.{countTo, Cleared}
 use Rattle.lamp_fates.specs.inner.Memory.{Memory}
 use Rattle.run_laws.specs.inner.Pairs.{pairs}
+use Rattle.run_laws.proofs.Pairs.{pairs-few}
 use Rattle.search_laws.specs.inner.Entries.{Entry}
 use Rattle.check_laws.specs.inner.Search.{conclusion, firstLabel, labels, verdictOf}
 use Rattle.check_laws.proofs.Layers.{Layer, first-layer, lamps-here, layer-tried, same-layer, next-layer, layer-beyond}
@@ -22,10 +23,13 @@ use Rattle.check_laws.proofs.SearchRest.{placesLeft, labelsLeft, begins, places
 use Rattle.plan_search.specs.declared.TurnEnd.{TurnEnd}
 use Rattle.plan_search.specs.declared.TurnEnd.the-variants.{Fails, Holds}
 use Rattle.plan_search.specs.declared.SearchEnd.the-variants.{AtLine}
-use Rattle.plan_search.specs.inner.Placing.{Chained}
-use Rattle.plan_search.specs.inner.Searching.{table, Listed, Ready, HasLabel, Turned, NoneMet, Searched}
-use Rattle.plan_search.proofs.EntryLaws.{entries-none}
-use Rattle.plan_search.proofs.ListLaws.{ready-tables, pairs-few, listed-empty, count-fits, table-length}
+use Rattle.working_list.specs.inner.Placing.{Chained}
+use Rattle.working_list.specs.inner.Listing.{table, Listed}
+use Rattle.line_trial.specs.inner.Trials.{Ready, HasLabel}
+use Rattle.plan_search.specs.inner.Searching.{Turned, NoneMet, Searched}
+use Rattle.working_list.proofs.EntryLaws.{entries-none}
+use Rattle.working_list.proofs.ListLaws.{listed-empty, count-fits, table-length}
+use Rattle.line_trial.proofs.TryingEnds.{ready-tables}
 use Rattle.plan_search.proofs.NewPairs.{label-small}
 
 -- The search is at a place of a layer whose lines have this number of lamps: the verdict is what the places from here on give.

@@ -9,13 +9,14 @@ use native.Mathlib.Omega.{arith}
 use Rattle.plans.specs.Execution.{Label, T*, here, join, step}
 use Rattle.lamp_line.specs.declared.ProgramState.{ProgramState}
 use Rattle.lamp_line.specs.Tables.{Tables, Line, Situation, Kinds, Fits, endKinds, lampColumn, columns, column, passed, movesOn, lampTheory, planOf, lineOf}
+use Rattle.lamp_line.proofs.Columns.{end-column-in, lamp-column-in}
 
 module _ (t : Tables) where
   column-below :
       (end : ℕ) (lamps : List ℕ) → end < endKinds t → Kinds (t .kinds) lamps → column t (lineOf end lamps) < columns (t .ends) (t .kinds)
-  unfolding endKinds lampColumn columns Kinds
-  column-below end [] e k = omega arith
-  column-below end (kind ∷ lamps) e k = omega (arith, k .1)
+  unfolding endKinds Kinds
+  column-below end [] e k = end-column-in (t .ends) (t .kinds) end e
+  column-below end (kind ∷ lamps) e k = lamp-column-in (t .ends) (t .kinds) kind (k .1)
 
   -- A line of the job is at one of the columns.
   pub column-is-below : {line : Line} → Fits t line → column t line < columns (t .ends) (t .kinds)

@@ -1,11 +1,17 @@
--- The arithmetic of pairs: their numbers are below the number of pairs, and the pair is read off its number.
+-- The arithmetic of pairs: how many there are at most; their numbers are below the number of pairs, and the pair is read off its number.
 use mathlib.Core.Path.{_≡_, sym, ap, ap₂, _∙_}
-use Prim.Native.Nat.{ℕ, _+_, _*_, _<_}
+use Prim.Native.Nat.{ℕ, _+_, _*_, _≤_, _<_}
 use native.Mathlib.Omega.{arith}
 use lib.Arith.{digits-lt, digits-div, digits-mod}
 use Rattle.lamp_line.specs.Tables.{Tables, programState, worldState}
+use Rattle.lamp_line.specs.inner.WellFormed.{WellFormed}
 use Rattle.lamp_line.specs.Run.{Pair, pair}
+use Rattle.lamp_line.proofs.Products.{product-le}
 use Rattle.run_laws.specs.inner.Pairs.{InRange, pairs, pairNumber, pairOf}
+
+-- There are at most 65 times 64 pairs.
+pub pairs-few : {t : Tables} → WellFormed t → pairs t ≤ 4160
+pairs-few {t} wf = product-le 65 64 (t .states + 1) (t .worlds) (omega (arith, wf .states-range)) (wf .worlds-range .1)
 
 -- The number of a pair whose state is below a bound is below as many rows. With S as the bound the state is not final.
 pub pair-number-bound :

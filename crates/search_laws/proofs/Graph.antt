@@ -2,9 +2,10 @@
 -- failures is the least.
 use mathlib.Core.Path.{_≡_, sym, subst}
 use mathlib.Core.List.{List, [], _∷_, _++_, append-assoc}
-use Prim.Native.Nat.{ℕ, _<_}
+use Prim.Native.Nat.{ℕ, _+_, _<_}
 use native.Mathlib.Decide.{decLt, ℕ-discrete}
 use native.Mathlib.Omega.{arith}
+use lib.ListN.{length, length-append}
 use Rattle.lamp_line.specs.Lists.{_≼_}
 use Rattle.lamp_line.specs.Tables.{Kinds}
 use Rattle.search_laws.specs.inner.Lists.{_▸_}
@@ -15,6 +16,10 @@ use Rattle.search_laws.specs.inner.Graph.{Graph, FailsAlong, goes-on, Re
 -- A lamp at the end of a line is the first of what follows the line.
 pub snoc-append : (p : List ℕ) (c : ℕ) (r : List ℕ) → (p ▸ c) ++ r ≡ p ++ (c ∷ r)
 snoc-append p c r = append-assoc p (c ∷ []) r
+
+-- A line with one lamp more is one longer.
+pub snoc-length : (p : List ℕ) (c : ℕ) → length (p ▸ c) ≡ length p + 1
+snoc-length p c = omega (arith, length-append p (c ∷ []))
 
 module _ (g : Graph) where
   -- The line fails from the start, and comes first of all that fail.

@@ -4,7 +4,7 @@ use mathlib.Core.Path.{refl}
 use native.Mathlib.Omega.{arith}
 use Rattle.job_layout.specs.JobTables.{tablesBy}
 use Rattle.plan_search.proofs.NewPairs.{NewPair, new-pair, few-pairs, list-has-room, bit-has-room, packable, turn-placed}
-use Rattle.plan_search.proofs.Turns.{tries-fails, tries-nothing}
+use Rattle.line_trial.proofs.LineTried.{tries-fails, tries-nothing}
 use Rattle.plan_search.proofs.one_turn.Statement.{statement}
 use Rattle.plan_search.proofs.one_turn.Tie as tie
 

@@ -7,7 +7,8 @@ use mathlib.Core.Logic.{⊎-elim}
 use native.Mathlib.Omega.{arith}
 use Prim.Native.Nat.{_+_, _-_}
 use lib.ListN.{length}
-use Rattle.plan_search.proofs.ListLaws.{ready-tables, pairs-few}
+use Rattle.run_laws.proofs.Pairs.{pairs-few}
+use Rattle.line_trial.proofs.TryingEnds.{ready-tables}
 use Rattle.plan_search.proofs.SearchLoops.{AtPlace, AtLabel, turned-as, search-begins, place-begun, count-few, layer-held}
 use Rattle.plan_search.proofs.SearchLoops.{label-here, label-few, label-held, label-failed, place-in-layer, place-in-next, through, stopped}
 use Rattle.plan_search.proofs.search_places.Statement.{statement}

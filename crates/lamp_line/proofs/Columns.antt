@@ -1,0 +1,19 @@
+-- The columns of ends and of lamps are among the columns, and those of lamps come after those of ends.
+use Prim.Native.Nat.{ℕ, _+_, _≤_, _<_}
+use native.Mathlib.Omega.{arith}
+use Rattle.lamp_line.specs.Tables.{lampColumn, columns}
+
+-- The column of an end is one of the columns.
+pub end-column-in : (ends kinds end : ℕ) → end < ends + 1 → end < columns ends kinds
+unfolding columns
+end-column-in ends kinds end is-end = omega arith
+
+-- So is the column of a lamp.
+pub lamp-column-in : (ends kinds kind : ℕ) → kind ≤ kinds → lampColumn ends kind < columns ends kinds
+unfolding columns lampColumn
+lamp-column-in ends kinds kind is-kind = omega arith
+
+-- A lamp's column comes after those of the ends.
+pub lamp-after-ends : (ends kind : ℕ) → 1 ≤ kind → ends < lampColumn ends kind
+unfolding lampColumn
+lamp-after-ends ends kind low = omega arith

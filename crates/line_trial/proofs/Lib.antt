@@ -1,0 +1,3 @@
+pub mod LastStretch
+pub mod LineTried
+pub mod TryingEnds

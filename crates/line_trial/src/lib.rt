@@ -1,0 +1,157 @@
+// Trying one line of the check's search (01, "The check"): the line of a place and a label, with every kind of end, the lowest first (02, (c)).
+// Its lamps but the last led to the pair that the working list has for that place, so only its last stretch is looked at.
+ghost use mathlib.Core.Path.{_≡_};
+ghost use mathlib.Core.Bool.{_&&_};
+ghost use Prim.Native.Nat.{_*_, _≤_, _<_};
+ghost use lib.Dec.{eqb};
+ghost use lib.ListN.{length};
+ghost use Rattle.job_layout.specs.JobTables.{tablesBy};
+ghost use Rattle.job_file.specs.Reading.{Opened};
+ghost use Rattle.pair_bits.specs.inner.Bits.{bitAt};
+ghost use Rattle.working_list.specs.inner.Listing.{table, Listed};
+ghost use Rattle.line_trial.specs.inner.Trials.{Ready, HasLabel, Begins, TriedBelow, TriesEnd, TriesLine};
+use job_layout::Job;
+use job_layout::places::lamp_column;
+use job_tables::is_start;
+use lamp_fates::Fate;
+use lamp_fates::fate_at;
+use lamp_fates::pair_number;
+use lamp_line::FailureKind;
+use lamp_line::ProgramState;
+use lamp_line::WorldState;
+use pair_bits::is_set;
+use working_list::list::unpack;
+
+// Where the last stretch of a line begins: with a pair at the column of its last lamp, or of its end if it is empty; nowhere, if there is
+// no such line.
+pub enum Stretch {
+    Nowhere,
+    From(ProgramState, WorldState, u8),
+}
+
+// What comes of trying a line: it fails, and this is the lowest kind of end with which it does; nothing is new; or it reaches its end with
+// a new pair, and fails with no kind of end.
+pub enum Tried {
+    Fails(FailureKind, u8),
+    Nothing,
+    New(ProgramState, WorldState),
+}
+
+// Where the last stretch begins of the line that is tried at a place with a label and an end. At place 0 the line is empty. At every
+// other place its lamps but the last led to the pair that the list has for that place.
+fn last_stretch(
+    file: &[u8],
+    job: Job,
+    list: &[u32],
+    words: &[u64],
+    count: usize,
+    place: usize,
+    label: u8,
+    end: u8,
+) -> Stretch
+    requires { ⌜ Opened (now file) job × Listed (tablesBy (now file) job) (now list) (now words) count
+        × HasLabel (tablesBy (now file) job) count place label × (end ≤ job .ends) ⌝ }
+    ensures { λ r. ⌜ Begins (tablesBy (now (file .entry)) job) (table (tablesBy (now (file .entry)) job) (now (list .entry)) count)
+        place label end r ⌝ }
+{
+    if place == 0 {
+        let start = WorldState(label);
+        let first = job.first;
+        if is_start(file, job, start) {
+            return Stretch::From(first, start, end);
+        }
+        return Stretch::Nowhere;
+    }
+    let before = unpack(list[place - 1]);
+    let state = before.state;
+    let world = before.world;
+    Stretch::From(state, world, lamp_column(job, label))
+}
+
+// Whether a line is at the lowest end with a pair that is in the list already. The lowest end is tried first, so there is no need to ask
+// at the others.
+fn is_met(words: &[u64], pair: usize, column: u8) -> bool
+    requires { ⌜ pair < length (now words) * 64 ⌝ }
+    ensures { λ r. ⌜ r ≡ (eqb column 0 && bitAt (now (words .entry)) pair) ⌝ }
+{
+    if column == 0 {
+        return is_set(words, pair);
+    }
+    false
+}
+
+// Tries a line with one kind of end, if it does not fail with a lower one: from its last lamp, and then, if it gets there with a new pair,
+// at its end.
+fn try_end(
+    file: &[u8],
+    job: Job,
+    memory: &mut [u16],
+    list: &[u32],
+    words: &[u64],
+    count: usize,
+    place: usize,
+    label: u8,
+    end: u8,
+) -> Tried
+    requires { ⌜ Ready (now file) job (now memory) × Listed (tablesBy (now file) job) (now list) (now words) count
+        × HasLabel (tablesBy (now file) job) count place label × (end ≤ job .ends)
+        × TriedBelow (tablesBy (now file) job) (table (tablesBy (now file) job) (now list) count) place label end ⌝ }
+    ensures { λ r. ⌜ TriesEnd (tablesBy (now (file .entry)) job) (table (tablesBy (now (file .entry)) job) (now (list .entry)) count)
+        place label end (now (words .entry)) r (now (memory .exit)) ⌝ }
+{
+    let stretch = last_stretch(file, job, list, words, count, place, label, end);
+    let Stretch::From(first, start, lamp) = stretch else {
+        return Tried::Nothing;
+    };
+    let mut state = first;
+    let mut world = start;
+    let mut column = lamp;
+    loop {
+        if is_met(words, pair_number(state, world, job.worlds), column) {
+            return Tried::Nothing;
+        }
+        let fate = fate_at(file, job, memory, state, world, column);
+        if let Fate::Fails(failure) = fate {
+            return Tried::Fails(failure, end);
+        }
+        if column == end {
+            return Tried::New(state, world);
+        }
+        let Fate::Arrives(to, next) = fate else {
+            return Tried::Nothing;
+        };
+        state = to;
+        world = next;
+        column = end;
+    }
+}
+
+// Tries a line with one kind of end after the other, the lowest first. The function is for the search in the crate above and not for users: it
+// asks for the job that the reader answered for this file, for a memory of fates in its tables, and for a list that the search has made.
+pub fn try_line(
+    file: &[u8],
+    job: Job,
+    memory: &mut [u16],
+    list: &[u32],
+    words: &[u64],
+    count: usize,
+    place: usize,
+    label: u8,
+) -> Tried
+    requires { ⌜ Ready (now file) job (now memory) × Listed (tablesBy (now file) job) (now list) (now words) count
+        × HasLabel (tablesBy (now file) job) count place label ⌝ }
+    ensures { λ r. ⌜ TriesLine (tablesBy (now (file .entry)) job) (table (tablesBy (now (file .entry)) job) (now (list .entry)) count)
+        place label (now (words .entry)) r (now (memory .exit)) ⌝ }
+{
+    let mut end = 0;
+    loop {
+        let tried = try_end(file, job, memory, list, words, count, place, label, end);
+        let Tried::New(state, world) = tried else {
+            return tried;
+        };
+        if end == job.ends {
+            return Tried::New(state, world);
+        }
+        end += 1;
+    }
+}
