@@ -90,7 +90,7 @@ static uint8_t perform(uint8_t action)
 
 static bool goal_holds(void) { return file[head[NESSFLURRY_HEAD_GOAL_OFFSET] + world * columns() + column()] == 1; }
 
-/* Says beforehand how the line ends, which the cabinet itself cannot know; refuses a line with a kind that no lamp or end has. */
+/* Says beforehand how the run ends, which the cabinet itself cannot know; refuses a line with a kind that no lamp or end has. */
 static void foretell(void)
 {
     uint64_t answer = not_refused("run", nessflurry_run(file, file_size, world, line, lamps, end, UINT32_MAX));

@@ -36,7 +36,7 @@
  *   nobody writes meanwhile. What a call writes must not be shared while the call runs.
  * - Stack: each of the two checks needs NESSFLURRY_CHECK_STACK bytes, whatever the file; every other call needs less than 600 bytes.
  * - Time: nothing is remembered between calls, so each one tests the whole file again and costs at least what nessflurry_read does:
- *   some 0.1 microseconds for a file of a hundred bytes, some 15 for the largest tables. A check takes a few milliseconds at most,
+ *   some 0.1 microseconds for a file of a hundred bytes, some ten for the largest tables. A check takes a few milliseconds at most,
  *   and a check up to a number of lamps no longer than that.
  *   A walk makes at most S * W steps, and a run at most that many for each lamp and for the end of the line; a step takes some ten
  *   nanoseconds. A replay takes some twenty nanoseconds for an entry, and a microsecond for one that leaves every world state possible
@@ -52,14 +52,20 @@
  * The version of this header. nessflurry_version() returns the library's. If the two differ, the library has other functions or
  * answers than this header describes: call nothing else of it. A library that has more functions keeps its version.
  *
- * A caller of version 1, which knew one kind of line's end, changes this:
+ * A caller of version 1, which knew one kind of line's end, has to be compiled with this header and to change this:
  *
- * - nessflurry_run takes an end kind after the line: 0 does what version 1 did.
- * - `head` of nessflurry_read has 17 elements, and the offsets and lengths are one further back: NESSFLURRY_HEAD_LAST_END is new.
+ * - nessflurry_run takes an end kind after the line. For a file of one end kind, 0 does what version 1 did.
+ * - `head` of nessflurry_read has 17 elements: NESSFLURRY_HEAD_LAST_END is new, and the index of each offset and length is one higher.
+ * - nessflurry_raw_run and nessflurry_raw_read have changed in the same two ways under the same names. A linker does not notice: an object
+ *   that was compiled with version 1, or a binding made for it, links and goes wrong.
  * - A failure of the checks has an end kind, nessflurry_end_of, where version 1 had 0.
  * - Byte 6 of a job file, which had to be 0, is the number of end kinds less one. A file in which it is 0 means what it meant, and all
- *   its answers are as they were. A caller that takes any file must not take a lamp's kind for its column: kind k is column
+ *   its answers are as they were. Others, which version 1 refused with 2, may be accepted now; a caller whose lines have one kind of end tests
+ *   that head[NESSFLURRY_HEAD_LAST_END] is 0. A caller that takes any file must not take a lamp's kind for its column: kind k is column
  *   head[NESSFLURRY_HEAD_LAST_END] + k, in nessflurry_walk and in the tables, and the tables have E + C columns instead of C + 1.
+ *
+ * The walk, both checks, the replay, begin, action and report are called as before. A cabinet is not told what its line ends in: its plan
+ * senses that.
  */
 #define NESSFLURRY_VERSION 2
 

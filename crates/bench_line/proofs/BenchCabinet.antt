@@ -4,7 +4,7 @@ use mathlib.Core.Path.{_≡_, refl}
 use mathlib.Core.List.{List, [], _∷_}
 use Prim.Native.Nat.{ℕ}
 use Rattle.lamp_line.specs.declared.Cabinet.{Cabinet}
-use Rattle.lamp_line.specs.Tables.{programState, columns}
+use Rattle.lamp_line.specs.Tables.{programState, endKinds, columns}
 use Rattle.lamp_line.specs.Refusals.{refusal, answerBy, some-below}
 use Rattle.job_layout.specs.Rules.{numberWrong, placeWrong, lengthWrong}
 use Rattle.cabinet.specs.declared.BeginAnswer.the-variants as begin
@@ -37,7 +37,7 @@ pub record BenchCabinet : Type 0 where
   pub ended-then : actionAnswer G (at 4 0) ≡ action.Ended
 
 pub bench-cabinet : BenchCabinet
-unfolding each planBytes benchJob G columns refusal answerBy some-below numberWrong placeWrong lengthWrong beginAnswer actionAnswer reportAnswer leftBy
+unfolding each planBytes benchJob G endKinds columns refusal answerBy some-below numberWrong placeWrong lengthWrong beginAnswer actionAnswer reportAnswer leftBy
 bench-cabinet =
     record {
       begun = refl;

@@ -5,7 +5,7 @@ use mathlib.Core.Option.{Option, none, some}
 use mathlib.Core.List.{List}
 use Prim.Native.Nat.{ℕ}
 use lib.ListN.{set, take}
-use Rattle.lamp_line.specs.Tables.{columns}
+use Rattle.lamp_line.specs.Tables.{endKinds, columns}
 use Rattle.lamp_line.specs.Refusals.{refusal, some-below}
 use Rattle.job_layout.specs.Rules.{numberWrong, placeWrong, lengthWrong}
 use Rattle.job_file.specs.Reading.{fileRules}
@@ -33,7 +33,7 @@ pub record BenchReading : Type 0 where
   pub ten-before-eleven : refused (set (set G 117 5) 125 4) ≡ some 10
 
 pub bench-reading : BenchReading
-unfolding each planBytes benchJob G columns refusal some-below numberWrong placeWrong lengthWrong
+unfolding each planBytes benchJob G endKinds columns refusal some-below numberWrong placeWrong lengthWrong
 bench-reading =
     record {
       not-refused = refl;

@@ -21,7 +21,7 @@ pub fn bench() -> [u8; 128]
     ]
 }
 
-// Bench line G with one byte replaced.
+// Bench line G with one byte replaced. It is for test programs and not for users: it asks for a place within the file.
 pub fn bench_with(place: usize, byte: u8) -> [u8; 128]
     requires { ⌜ place < 128 ⌝ }
     ensures { λ r. ⌜ r ≡ set G place byte ⌝ }

@@ -34,7 +34,7 @@ machineAt q s = record { state = q; lamps = length (s .rest .lamps) }
 -- What executions of the job reach: the pair is one of the tables, and the line's end is one that the job has.
 pub record WithinJob (t : Tables) (q : ProgramState) (s : Situation) : Type 0 where
   pub in-range : InRange t (pair q (s .world))
-  pub end-range : s .rest .end < endKinds t
+  pub end-range : s .rest .end < endKinds (t .ends)
 
 -- One list of calls after another goes on from the state that the first one leaves.
 left-append :
@@ -58,7 +58,7 @@ module _ (t : Tables) (wf : WellFormed t) where
       {ls : List Label} {q q′ : ProgramState} {s s′ : Situation} → T* (lampTheory t) (planOf t) ls q s q′ s′ →
       WithinJob t q s → WithinJob t q′ s′
   stays-within a p =
-      record { in-range = execution-in-range t wf a (p .in-range); end-range = rw (end-kept t wf a) (p .end-range) }
+      record { in-range = execution-in-range t wf a (p .in-range); end-range = rw (end-kept t a) (p .end-range) }
 
 module _ (bytes : List ℕ) {j : Job} (opened : Opened bytes j) where
   -- ---- one step

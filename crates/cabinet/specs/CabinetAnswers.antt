@@ -10,6 +10,7 @@ use Rattle.lamp_line.specs.declared.ProgramState.{ProgramState}
 use Rattle.lamp_line.specs.declared.Cabinet.{Cabinet}
 use Rattle.lamp_line.specs.Tables.{Tables, movesOn}
 use Rattle.lamp_line.specs.Refusals.{_when_, answerBy}
+use Rattle.lamp_line.specs.Run.{isFinal}
 use Rattle.job_layout.specs.JobTables.{tablesOf}
 use Rattle.job_file.specs.Reading.{fileRules}
 use Rattle.cabinet.specs.declared.BeginAnswer.{BeginAnswer}
@@ -34,7 +35,7 @@ module _ (t : Tables) where
 
   -- The machine is in state S.
   abbrev pub hasEnded : Cabinet → Bool
-  hasEnded m = eqb (m .state .0) (t .states)
+  hasEnded m = isFinal t (m .state)
 
   -- The action of the machine's state moves on.
   abbrev pub isMoving : Cabinet → Bool

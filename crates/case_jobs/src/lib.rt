@@ -2,9 +2,9 @@
 ghost use mathlib.Core.Path.{_≡_};
 ghost use lib.ListN.{length};
 
-// Lines that end in a cap, a joint box or a fuse box, which are the kinds of ends 0, 1 and 2; samples/three_ends.job has the same bytes.
-// Action 0 looks what is there, with results 0 to 2 for the ends and 3 for a lamp, action 1 moves on, action 2 seals a joint box and
-// action 3 sets a fuse. The plan goes to the end and seals the box or sets the fuse. Cells are at 32, the plan at 170.
+// Lines with three ends, which are the kinds 0 (cap), 1 (joint box) and 2 (fuse box); samples/three_ends.job has the same bytes. Action 0
+// looks what is there, with results 0 to 2 for the ends and 3 for a lamp, action 1 moves on, action 2 seals a joint box and action 3 sets
+// a fuse. The plan goes to the end and seals the box or sets the fuse. Cells are at 32, the plan at 170.
 pub fn three_ends() -> [u8; 190]
     ensures { λ r. ⌜ 190 ≡ length r ⌝ }
 {

@@ -5,6 +5,7 @@
 ghost use mathlib.Core.Path.{_≡_};
 ghost use Prim.Native.Nat.{_+_, _*_, _≤_, _<_};
 ghost use lib.ListN.{length};
+ghost use Rattle.lamp_line.specs.Tables.{endKinds};
 ghost use Rattle.lamp_line.specs.Refusals.{some-below};
 ghost use Rattle.job_layout.specs.inner.Laid.{Laid};
 ghost use Rattle.job_layout.specs.Rules.{cellWrongIn, cellWrongAt, cellWrong, legalAtEnd, movesOnAtEnd, endWrong};
@@ -60,7 +61,7 @@ pub fn cell_wrong(file: &[u8], job: Job) -> bool
 
 // The action is legal at this end in some world state.
 fn legal_at_end(file: &[u8], job: Job, action: u8, end: u8) -> bool
-    requires { ⌜ Laid (now file) job × (action < job .actions) × (end < job .ends + 1) ⌝ }
+    requires { ⌜ Laid (now file) job × (action < job .actions) × (end < endKinds (job .ends)) ⌝ }
     ensures { λ r. ⌜ r ≡ legalAtEnd (now (file .entry)) job action end ⌝ }
 {
     let worlds = job.worlds;
@@ -78,7 +79,7 @@ fn legal_at_end(file: &[u8], job: Job, action: u8, end: u8) -> bool
 // The action is legal at some end.
 fn legal_at_ends(file: &[u8], job: Job, action: u8) -> bool
     requires { ⌜ Laid (now file) job × (action < job .actions) ⌝ }
-    ensures { λ r. ⌜ r ≡ some-below (job .ends + 1) (legalAtEnd (now (file .entry)) job action) ⌝ }
+    ensures { λ r. ⌜ r ≡ some-below (endKinds (job .ends)) (legalAtEnd (now (file .entry)) job action) ⌝ }
 {
     let count = job.ends + 1;
     let mut end = 0;

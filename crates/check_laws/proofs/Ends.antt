@@ -11,11 +11,11 @@ use Rattle.check_laws.proofs.TableGraph.{FailsAt}
 module _ (t : Tables) where
   -- The pair fails at no end.
   abbrev pub GoodAtEnds : ℕ → Type 0
-  GoodAtEnds x = (e f : ℕ) → e < endKinds t → ¬ (FailsAt t x e f)
+  GoodAtEnds x = (e f : ℕ) → e < endKinds (t .ends) → ¬ (FailsAt t x e f)
 
   -- The pair fails at the end e with this failure kind, and fails at no lower end.
   pub record BadAtEnd (x e : ℕ) (kind : FailureKind) : Type 0 where
-    pub is-end : e < endKinds t
+    pub is-end : e < endKinds (t .ends)
     pub fate-is : fate t x e ≡ fails kind
     pub lowest : (e′ f : ℕ) → e′ < e → ¬ (FailsAt t x e′ f)
 
@@ -26,7 +26,7 @@ module _ (t : Tables) where
 
   -- The test from the end e on, if the pair fails at none of the lower ends.
   ends-from :
-      (n e x : ℕ) → e + n ≡ endKinds t → ((e′ f : ℕ) → e′ < e → ¬ (FailsAt t x e′ f)) → EndsSay x (endsFrom t n e x)
+      (n e x : ℕ) → e + n ≡ endKinds (t .ends) → ((e′ f : ℕ) → e′ < e → ¬ (FailsAt t x e′ f)) → EndsSay x (endsFrom t n e x)
   unfolding endsFrom
   ends-from zero e x h none = λ e′ f l. none e′ f (omega arith)
   ends-from (suc n) e x h none = go (ends-from n (e + 1) x (omega arith)) (fate t x e) refl
@@ -52,4 +52,4 @@ module _ (t : Tables) where
 
   -- What the test of all kinds of ends says is true.
   pub ends-say : (x : ℕ) → EndsSay x (atEnds t x)
-  ends-say x = ends-from (endKinds t) 0 x (omega arith) (λ e f l. absurd (omega arith))
+  ends-say x = ends-from (endKinds (t .ends)) 0 x (omega arith) (λ e f l. absurd (omega arith))

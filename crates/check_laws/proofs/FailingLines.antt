@@ -21,7 +21,7 @@ use Rattle.check_laws.proofs.FateLaws.{kind-number-injective, fate-of-p
 use Rattle.check_laws.proofs.TableGraph.{graph, start-in-range}
 use Rattle.check_laws.proofs.RunLeads.{leads-run, run-leads}
 
-module _ (t : Tables) (wf : WellFormed t) (end : ℕ) (is-end : end < endKinds t) where
+module _ (t : Tables) (wf : WellFormed t) (end : ℕ) (is-end : end < endKinds (t .ends)) where
   abbrev number : Pair → ℕ
   number p = pairNumber (t .worlds) p
 

@@ -45,7 +45,7 @@ lamps-never-more t (step {q = q} {s = s} x) = rw (x .does .1) (no-more (movesOn 
     no-more true [] end = omega arith
     no-more true (kind ∷ lamps) end = omega arith
 
-module _ (t : Tables) (wf : WellFormed t) (end : ℕ) (is-end : end < endKinds t) where
+module _ (t : Tables) (wf : WellFormed t) (end : ℕ) (is-end : end < endKinds (t .ends)) where
   -- The lamp line of the job, and its plan.
   abbrev D : ActionTheory
   D = lampTheory t
@@ -70,7 +70,7 @@ module _ (t : Tables) (wf : WellFormed t) (end : ℕ) (is-end : end < endKinds t
 
     one-lamp-fewer : length (b .by .at .rest .lamps) ≡ length (b .rest .lamps) + 1
     one-lamp-fewer =
-        let h : b .by .at .rest .end < endKinds t = rw (end-kept t wf (b .by .before)) is-end in
+        let h : b .by .at .rest .end < endKinds (t .ends) = rw (end-kept t (b .by .before)) is-end in
         omega (arith, step-passes t wf (b .by .last) (b .moves-on) h)
 
     -- From p no execution leads back to the first lamp.

@@ -27,7 +27,7 @@ module _ (t : Tables) where
   graph =
       record {
         kinds = t .kinds;
-        ends = endKinds t;
+        endCount = endKinds (t .ends);
         Start = λ s x. (t .start (worldState s) ≡ true) × (x ≡ startNode t s);
         To = λ x c y. fate t x (lampColumn (t .ends) c) ≡ arrives y;
         Bad = λ x c f. FailsAt x (lampColumn (t .ends) c) f;

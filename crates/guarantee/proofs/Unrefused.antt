@@ -32,11 +32,11 @@ marked-unless false false e = sym e
 pub unrefused-run :
     (s : List ℕ) (start : WorldState) (line : Line) → refusal (runRules s start line) ≡ none → UnrefusedRun s start line
 unrefused-run s start line e =
-    let opened = opened-unrefused s ((14 when startUnmarked (tablesOf s) start) ∷ (15 when lineWrong (tablesOf s .kinds) (tablesOf s .ends) line) ∷ []) e in
+    let opened = opened-unrefused s ((14 when startUnmarked (tablesOf s) start) ∷ (15 when lineWrong (tablesOf s .ends) (tablesOf s .kinds) line) ∷ []) e in
     let own = none-of-both (fileRules s)
-    ((14 when startUnmarked (tablesOf s) start) ∷ (15 when lineWrong (tablesOf s .kinds) (tablesOf s .ends) line) ∷ []) e .1 in
+    ((14 when startUnmarked (tablesOf s) start) ∷ (15 when lineWrong (tablesOf s .ends) (tablesOf s .kinds) line) ∷ []) e .1 in
     let (marked, after) = first-not-applied 14 (startUnmarked (tablesOf s) start) _ own in
-    let (right, _) = first-not-applied 15 (lineWrong (tablesOf s .kinds) (tablesOf s .ends) line) [] after in
+    let (right, _) = first-not-applied 15 (lineWrong (tablesOf s .ends) (tablesOf s .kinds) line) [] after in
     record {
       opened = opened;
       beginning =

@@ -1,4 +1,4 @@
--- Demand 3 of the mission for the cabinet (01, "The cabinet"): what its operations answer on the bytes of a job file, call after call.
+-- The user's demand 3 for the cabinet (01, "The cabinet"): what its operations answer on the bytes of a job file, call after call.
 use mathlib.Core.Path.{_≡_}
 use mathlib.Core.List.{List, map}
 use Prim.Native.Nat.{ℕ, _≤_}

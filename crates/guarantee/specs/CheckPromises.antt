@@ -1,4 +1,4 @@
--- Demand 3 of the mission for the check (01, "The check"): what its answers mean, beyond what its contract says of each call.
+-- The user's demand 3 for the check (01, "The check"): what its answers mean, beyond what its contract says of each call.
 use mathlib.Core.Path.{_≡_}
 use mathlib.Core.Logic.{_↔_}
 use mathlib.Core.Option.{none}

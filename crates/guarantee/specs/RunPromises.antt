@@ -1,4 +1,4 @@
--- Demand 2 of the mission: the answers of the run (01, "One run") are those of the execution of 001, Definitions 2 and 4.
+-- The user's demand 2: the answers of the run (01, "One run") are those of the execution of 001, Definitions 2 and 4.
 use mathlib.Core.Path.{_≡_}
 use mathlib.Core.Logic.{_↔_}
 use mathlib.Core.Option.{none}

@@ -1,11 +1,12 @@
 -- A job that the reader answers is the file's head, and none of the eleven rules applies to the file.
 use mathlib.Core.Path.{_≡_, refl, sym, subst}
-use mathlib.Core.Bool.{Bool, true, false}
+use mathlib.Core.Bool.{false}
 use mathlib.Core.Option.{Option, none, some}
-use mathlib.Core.List.{List, [], _∷_}
+use mathlib.Core.List.{List, []}
 use Prim.Native.Nat.{ℕ}
 use native.Mathlib.Omega.{arith}
-use Rattle.lamp_line.specs.Refusals.{Rule, _when_, refusal, orRefused, answerBy}
+use Rattle.lamp_line.specs.Refusals.{refusal, orRefused, answerBy}
+use Rattle.lamp_line.proofs.Answering.{first-not-applied}
 use Rattle.job_layout.specs.declared.Job.{Job}
 use Rattle.job_layout.specs.Layout.{head}
 use Rattle.job_layout.specs.Rules.{sizeWrong, numberWrong, placeWrong, lengthWrong, markWrong, cellWrong, endWrong, startWrong, goalWrong, actionWrong, targetWrong}
@@ -31,26 +32,19 @@ answered : (o : Option ℕ) (h j : Job) → orRefused reading.Refused o (reading
 answered none h j e = (refl, cc)
 answered (some number) h j e = absurd (let z : _≡_ {A = ℕ} 0 1 = cc in omega arith)
 
--- If no rule of a list applies, the first does not, and none of the others does.
-past : (number : ℕ) (applies : Bool) (more : List Rule) → refusal ((number when applies) ∷ more) ≡ none →
-    (applies ≡ false) × (refusal more ≡ none)
-unfolding refusal
-past number true more e = absurd (let z : _≡_ {A = ℕ} 0 1 = cc in omega arith)
-past number false more e = (refl, e)
-
 none-of : (s : List ℕ) (j : Job) → j ≡ head s → refusal (rules s j) ≡ none → NoneApplies s j
 none-of s j is-head e =
-    let r₁ = past _ _ _ e in
-    let r₂ = past _ _ _ (r₁ .1) in
-    let r₃ = past _ _ _ (r₂ .1) in
-    let r₄ = past _ _ _ (r₃ .1) in
-    let r₅ = past _ _ _ (r₄ .1) in
-    let r₆ = past _ _ _ (r₅ .1) in
-    let r₇ = past _ _ _ (r₆ .1) in
-    let r₈ = past _ _ _ (r₇ .1) in
-    let r₉ = past _ _ _ (r₈ .1) in
-    let r₁₀ = past _ _ _ (r₉ .1) in
-    let r₁₁ = past _ _ _ (r₁₀ .1) in
+    let r₁ = first-not-applied _ _ _ e in
+    let r₂ = first-not-applied _ _ _ (r₁ .1) in
+    let r₃ = first-not-applied _ _ _ (r₂ .1) in
+    let r₄ = first-not-applied _ _ _ (r₃ .1) in
+    let r₅ = first-not-applied _ _ _ (r₄ .1) in
+    let r₆ = first-not-applied _ _ _ (r₅ .1) in
+    let r₇ = first-not-applied _ _ _ (r₆ .1) in
+    let r₈ = first-not-applied _ _ _ (r₇ .1) in
+    let r₉ = first-not-applied _ _ _ (r₈ .1) in
+    let r₁₀ = first-not-applied _ _ _ (r₉ .1) in
+    let r₁₁ = first-not-applied _ _ _ (r₁₀ .1) in
     record {
       is-head = is-head;
       size = r₁ .0;

@@ -1,6 +1,5 @@
 -- A file that is not refused is laid out as it must be, and its tables are well formed: the law `sound`, for all crates above.
 use mathlib.Core.Path.{_≡_, refl, sym, ap, _∙_, subst}
-use mathlib.Core.Logic.{inl, inr}
 use mathlib.Core.Bool.{Bool, true, false, cond, _&&_, _||_, not, and-eq-true-iff}
 use mathlib.Core.Option.{none, some}
 use mathlib.Core.List.{List, [], _∷_}
@@ -17,6 +16,7 @@ use Rattle.lamp_line.specs.Lists.{_∈_}
 use Rattle.lamp_line.specs.Tables.{Outcome, outcome, worldState, movesOn, columns, endKinds}
 use Rattle.lamp_line.specs.inner.WellFormed.{WellFormed}
 use Rattle.lamp_line.specs.Refusals.{some-below}
+use Rattle.lamp_line.proofs.Members.{only-member}
 use Rattle.lamp_line.proofs.Scan.{none-at, some-at}
 use Rattle.job_layout.specs.declared.Job.{Job}
 use Rattle.job_layout.specs.Layout.{byte, head, markPlace, nextPlace, resultPlace, actionPlace, targetPlace}
@@ -62,12 +62,6 @@ at-most-one next result =
     choice (λ (l : List Outcome). length l ≤ 1) (eqb result 255) {x = []} {y = outcome (worldState next) result ∷ []}
     (λ e. omega arith) (λ e. omega arith)
 
--- A member of a list of one is that one.
-only : (x y : Outcome) → x ∈ (y ∷ []) → x ≡ y
-unfolding _∈_
-only x y (inl e) = e
-only x y (inr h) = absurd h
-
 -- What an outcome in the cell of a file's tables says of the cell's bytes.
 pub record LegalCell (s : List ℕ) (j : Job) (a : Action) (w : WorldState) (c : ℕ) (w′ : WorldState) (r : Result) : Type 0 where
   pub action-in : a < j .actions
@@ -86,7 +80,7 @@ module _ (s : List ℕ) (j : Job) where
       (ltb a (j .actions) && ltb (w .0) (j .worlds) && ltb c (columns (j .ends) (j .kinds)))
       (λ inside. choice (λ l. outcome w′ r ∈ l → LegalCell s j a w c w′ r) (eqb (byte s (resultPlace j a w c)) 255)
       (λ e m. absurd m)
-      (λ e m. let is = only _ _ m in
+      (λ e m. let is = only-member _ _ m in
       let tests = and-eq-true-iff _ _ .0 inside in
       let two = and-eq-true-iff _ _ .0 (tests .0) in
       record {
@@ -111,12 +105,12 @@ module _ (s : List ℕ) (j : Job) where
         (none-applies .cells) ((a * j .worlds + w .0) * columns (j .ends) (j .kinds) + c) (digits-lt row c<)
 
     -- An action that moves on has 255 for its result at each end.
-    end-result : (a : Action) (w e : ℕ) → a < j .actions → w < j .worlds → e < j .ends + 1 → eqb (byte s (markPlace j a)) 1 ≡ true →
+    end-result : (a : Action) (w e : ℕ) → a < j .actions → w < j .worlds → e < endKinds (j .ends) → eqb (byte s (markPlace j a)) 1 ≡ true →
         eqb (byte s (resultPlace j a (worldState w) e)) 255 ≡ true
     end-result a w e a< w< e< moves =
         let here = none-at (movesOnAtEnd s j) (j .actions) (none-applies .ends) a a< in
         let nowhere = second _ _ here moves in
-        let not-here = none-at (legalAtEnd s j a) (j .ends + 1) nowhere e e< in
+        let not-here = none-at (legalAtEnd s j a) (endKinds (j .ends)) nowhere e e< in
         not-false _ (none-at (legalAt s j a e) (j .worlds) not-here w w<)
 
     target-right : (q : ProgramState) (r : Result) → q .0 < j .states → r < j .results →
@@ -152,7 +146,7 @@ module _ (s : List ℕ) (j : Job) where
         (cell-result (j .worlds) (j .results) (byte s (nextPlace j a w c)) _ (cell-right a w c (cell .action-in) (cell .world-in) (cell .column-in)) (cell .legal))
 
     -- An action that moves on has no outcome at an end.
-    no-outcome : (a : Action) (w : WorldState) (c : ℕ) → a < j .actions → c < j .ends + 1 → eqb (byte s (markPlace j a)) 1 ≡ true →
+    no-outcome : (a : Action) (w : WorldState) (c : ℕ) → a < j .actions → c < endKinds (j .ends) → eqb (byte s (markPlace j a)) 1 ≡ true →
         tablesBy s j .cell a w c ≡ []
     no-outcome a w c a< c< moves =
         choice (λ l. l ≡ []) (ltb a (j .actions) && ltb (w .0) (j .worlds) && ltb c (columns (j .ends) (j .kinds)))
@@ -160,9 +154,8 @@ module _ (s : List ℕ) (j : Job) where
         rw (end-result a (w .0) c a< w< c< moves))
         (λ e. refl)
 
-    end-stays : (a : Action) (w : WorldState) (c : ℕ) → movesOn (tablesBy s j) a ≡ true → c < endKinds (tablesBy s j) →
+    end-stays : (a : Action) (w : WorldState) (c : ℕ) → movesOn (tablesBy s j) a ≡ true → c < endKinds (j .ends) →
         tablesBy s j .cell a w c ≡ []
-    unfolding endKinds
     end-stays a w c moves c< =
         choice (λ n. eqb n 1 ≡ true → tablesBy s j .cell a w c ≡ []) (ltb a (j .actions))
         (λ e m. no-outcome a w c (ltb-true _ _ e) c< m)

@@ -20,7 +20,7 @@ use Rattle.job_layout.specs.OneEndKind.{columnBefore, OneEndKindAsBefore
 
 -- There is one column more than there are kinds.
 columns-before : (ends kinds : ℕ) → ends ≡ 0 → columns ends kinds ≡ kinds + 1
-unfolding columns
+unfolding endKinds columns
 columns-before ends kinds none = omega arith
 
 -- A lamp's column is its kind.
@@ -87,6 +87,7 @@ one-end-kind-as-before s none =
     let count : columns (head s .ends) (head s .kinds) ≡ head s .kinds + 1 = columns-before (byte s 6) (head s .kinds) none in
     record {
       one-end = omega arith;
+      columns-count = count;
       cells-length = rw count;
       goal-length = rw count;
       cell-place = λ a w c. rw count;
@@ -100,7 +101,10 @@ one-end-kind-as-before s none =
           (some-below-one (legalAtEnd s (head s) a) (byte s 6 + 1) (omega arith)
           ∙ ap (λ (n : ℕ). some-below (head s .worlds) (λ w. differs (byte s (head s .cells .offset + 2 * ((a * head s .worlds + w) * n + 0) + 1)) 255))
           count);
-      lines-end = λ line fits. omega (arith, fits .ended);
+      lines = λ line. (
+        λ fits. (fits .of-kinds, omega (arith, fits .ended)),
+        λ (of-kinds, lowest). record { of-kinds = of-kinds; ended = omega arith },
+      );
       line-column = λ lamps. column-before (byte s 6) none lamps;
       order = λ start start′ lamps lamps′. order-before start start′ lamps lamps′;
     }

@@ -11,7 +11,7 @@ use lib.ListN.{length}
 use Rattle.plans.specs.Plan.{Action}
 use Rattle.lamp_line.specs.declared.WorldState.{WorldState}
 use Rattle.lamp_line.specs.Lists.{_≼_}
-use Rattle.lamp_line.specs.Tables.{Line, lineOf, endKinds, column, Fits, worldState}
+use Rattle.lamp_line.specs.Tables.{Line, lineOf, endKinds, columns, column, Kinds, Fits, worldState}
 use Rattle.lamp_line.specs.Refusals.{some-below}
 use Rattle.lamp_line.specs.Check.{rank}
 use Rattle.job_layout.specs.declared.Job.{Job}
@@ -19,7 +19,7 @@ use Rattle.job_layout.specs.Layout.{byte, head, cellsLength, goalLength,
 use Rattle.job_layout.specs.JobTables.{tablesOf}
 use Rattle.job_layout.specs.Rules.{outside, numberWrong, differs, movesOnAtEnd}
 
--- The column is the kind of the first lamp, or 0 if there is none.
+-- At a lamp the column is its kind; where no lamp is left it is 0.
 abbrev pub columnBefore : List ℕ → ℕ
 columnBefore [] = 0
 columnBefore (kind ∷ lamps) = kind
@@ -45,15 +45,16 @@ movesOnBefore s j a =
 
 -- All of it is as before for this file.
 pub record AsBefore (s : List ℕ) : Type 0 where
-  pub one-end : endKinds (tablesOf s) ≡ 1
+  pub one-end : endKinds (head s .ends) ≡ 1
+  pub columns-count : columns (head s .ends) (head s .kinds) ≡ head s .kinds + 1
   pub cells-length : cellsLength (head s) ≡ 2 * (head s .actions * head s .worlds * (head s .kinds + 1))
   pub goal-length : goalLength (head s) ≡ head s .worlds * (head s .kinds + 1)
   pub cell-place : (a : Action) (w : WorldState) (c : ℕ) → nextPlace (head s) a w c ≡ nextPlaceBefore (head s) a w c
   pub goal-place : (w : WorldState) (c : ℕ) → goalPlace (head s) w c ≡ goalPlaceBefore (head s) w c
   pub refusal-2 : numberWrong s (head s) ≡ numberWrongBefore s (head s)
   pub refusal-7 : (a : ℕ) → movesOnAtEnd s (head s) a ≡ movesOnBefore s (head s) a
-  -- Every line of the job has the end kind 0, and its column is as before.
-  pub lines-end : (line : Line) → Fits (tablesOf s) line → line .end ≡ 0
+  -- The lines of the job are those with lamps of the kinds 1 to C and the end kind 0, and their column is as before.
+  pub lines : (line : Line) → Fits (tablesOf s) line ↔ (Kinds (head s .kinds) (line .lamps) × (line .end ≡ 0))
   pub line-column : (lamps : List ℕ) → column (tablesOf s) (lineOf 0 lamps) ≡ columnBefore lamps
   -- The order of these lines: by length, start and kinds of lamps.
   pub order :

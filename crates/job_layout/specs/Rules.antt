@@ -5,7 +5,7 @@ use mathlib.Core.List.{List}
 use Prim.Native.Nat.{ℕ, _+_, _*_}
 use lib.Dec.{eqb, leb, ltb}
 use lib.ListN.{length}
-use Rattle.lamp_line.specs.Tables.{programState, worldState, columns}
+use Rattle.lamp_line.specs.Tables.{programState, worldState, endKinds, columns}
 use Rattle.lamp_line.specs.Refusals.{some-below}
 use Rattle.job_layout.specs.declared.Part.{Part}
 use Rattle.job_layout.specs.declared.Job.{Job}
@@ -110,7 +110,7 @@ legalAtEnd s j a e = some-below (j .worlds) (legalAt s j a e)
 
 -- The action a moves on, and is legal at some end.
 abbrev pub movesOnAtEnd : List ℕ → Job → ℕ → Bool
-movesOnAtEnd s j a = eqb (byte s (markPlace j a)) 1 && some-below (j .ends + 1) (legalAtEnd s j a)
+movesOnAtEnd s j a = eqb (byte s (markPlace j a)) 1 && some-below (endKinds (j .ends)) (legalAtEnd s j a)
 
 abbrev pub endWrong : List ℕ → Job → Bool
 endWrong s j = some-below (j .actions) (movesOnAtEnd s j)

@@ -1,6 +1,7 @@
--- Examples of runs on small tables, each computed from the definition. They distinguish it from similar ones that would be wrong: a
--- counter that does not start again at each lamp, failure 3 tested before state S or by the program state alone, a goal judged
--- without its column, a lamp whose column is its kind where there are several kinds of ends.
+-- Examples of runs on small tables, each computed from the definition, and of the order of failing lines. They distinguish the definitions
+-- from similar ones that would be wrong: a counter that does not start again at each lamp, failure 3 tested before state S or by the
+-- program state alone, a goal judged without its column, a lamp whose column is its kind where there are several kinds of ends, an
+-- end that is compared before the lamps.
 use mathlib.Core.Path.{_≡_, refl}
 use mathlib.Core.Bool.{Bool, true, cond}
 use mathlib.Core.Option.{Option, none, some}
@@ -13,6 +14,7 @@ use Rattle.lamp_line.specs.declared.WorldState.{WorldState}
 use Rattle.lamp_line.specs.declared.FailureKind.the-variants.{NoBranch, Circles, GoalFalse}
 use Rattle.lamp_line.specs.declared.Ending.the-variants.{Goal, Failure}
 use Rattle.lamp_line.specs.Tables.{Outcome, outcome, Tables, programState, worldState, lineOf, lampColumn}
+use Rattle.lamp_line.specs.Check.{rank}
 use Rattle.lamp_line.specs.Run.{Run, ran, within, stopped, ownSteps, act, walk, along, run, limited}
 
 -- Two actions, of which action 1 moves on; one kind of lamp, two results; start 0, first state 0. The first number is that of the
@@ -82,7 +84,8 @@ turning = small 0 1 1 (λ a w c. outcome w 0 ∷ []) (λ w c. true) (λ q r. som
 abbrev branchless : Tables
 branchless = small 0 1 1 (λ a w c. outcome w 0 ∷ []) (λ w c. true) (λ q r. none)
 
--- The runs. `kind-after-ends` is at a lamp of kind 1, which has column 2. `counted-anew` counts 5 steps along two lamps although S·W is 2; the last two give the same run a limit.
+-- The runs, and a rank. `kind-after-ends` is at a lamp of kind 1, which has column 2. `counted-anew` counts 5 steps along two lamps although
+-- S·W is 2; `ends-at-limit` and `stopped-below` give the same run a limit.
 pub record Examples : Type 0 where
   pub final-before-circling : runOn one-step [] ≡ ran Goal 1
   pub goal-by-column : runOn at-once (1 ∷ 1 ∷ 1 ∷ []) ≡ ran Goal 0
@@ -97,10 +100,11 @@ pub record Examples : Type 0 where
   pub step-not-counted : runOn branchless [] ≡ ran (Failure NoBranch) 0
   pub ends-at-limit : limited 5 (runOn passing (1 ∷ 1 ∷ [])) ≡ within Goal 5
   pub stopped-below : limited 4 (runOn passing (1 ∷ 1 ∷ [])) ≡ stopped 4
+  pub end-compared-last : rank boxed (worldState 7) (lineOf 1 (2 ∷ 3 ∷ [])) ≡ 2 ∷ 7 ∷ 2 ∷ 3 ∷ 1 ∷ []
 
 -- Each holds by computation.
 pub examples : Examples
-unfolding lampColumn ownSteps act walk along
+unfolding lampColumn ownSteps act walk along rank
 examples =
     record {
       final-before-circling = refl;
@@ -116,4 +120,5 @@ examples =
       step-not-counted = refl;
       ends-at-limit = refl;
       stopped-below = refl;
+      end-compared-last = refl;
     }

@@ -55,7 +55,8 @@ movesOn t a = eqb (t .mark a) 1
 
 -- ---- lines and columns
 
--- The kinds of the lamps that are left, beginning with the lamp at which the cabinet is, and the kind of the line's end.
+-- The kinds of the lamps that are left, beginning with the lamp at which the cabinet is, and the kind of the line's end. In the terms of 001
+-- a line is a sequence function: it is read at the number of lamps left, and the end is its value at 0.
 pub record Line : Type 0 where
   pub lamps : List ℕ
   pub end : ℕ
@@ -64,9 +65,9 @@ pub record Line : Type 0 where
 abbrev pub lineOf : ℕ → List ℕ → Line
 lineOf end lamps = record { lamps = lamps; end = end }
 
--- 02, (c): the number E of kinds of line's end. Their columns are 0 to E - 1, each the number of its kind.
-unfoldable pub endKinds : Tables → ℕ
-endKinds t = t .ends + 1
+-- 02, (c): the number E of kinds of line's end, which are 0 to `ends`. Their columns are 0 to E - 1, each the number of its kind.
+unfoldable pub endKinds : ℕ → ℕ
+endKinds ends = ends + 1
 
 -- 02, (c): the column of a lamp of the kind k is E - 1 + k, where the kinds of ends are 0 to `ends`.
 unfoldable pub lampColumn : ℕ → ℕ → ℕ
@@ -74,7 +75,7 @@ lampColumn ends kind = ends + kind
 
 -- 02, (c): there are E + C columns, one for each kind of end and then one for each kind of lamp.
 unfoldable pub columns : ℕ → ℕ → ℕ
-columns ends kinds = ends + 1 + kinds
+columns ends kinds = endKinds ends + kinds
 
 -- The column of the first of these lamps, or of the line's end if there is none, where the kinds of ends are 0 to `ends`.
 abbrev pub columnOf : ℕ → ℕ → List ℕ → ℕ
@@ -106,7 +107,7 @@ Kinds kinds (kind ∷ lamps) = (1 ≤ kind) × (kind ≤ kinds) × Kinds kinds l
 -- The line is one of the job's lines: it has any number of lamps, each of one of the job's kinds, and one of the job's kinds of end.
 pub record Fits (t : Tables) (line : Line) : Type 0 where
   pub of-kinds : Kinds (t .kinds) (line .lamps)
-  pub ended : line .end < endKinds t
+  pub ended : line .end < endKinds (t .ends)
 
 -- ---- the lamp line in the terms of 001
 

@@ -4,9 +4,10 @@ use mathlib.Core.Path.{_≡_, refl, sym, ap, _∙_}
 use mathlib.Core.Bool.{true, false}
 use mathlib.Core.List.{List, [], _∷_}
 use Prim.Native.Nat.{ℕ, _+_, _-_, _≤_, _<_}
+use native.Mathlib.Decide.{decLt}
 use native.Mathlib.Omega.{arith}
-use borrow.Author.Tests.{ltb-false, le-ltb}
-use lib.Dec.{ltb}
+use borrow.Author.Tests.{leb-false, ltb-false, le-leb, lt-leb, lt-ltb, le-ltb}
+use lib.Dec.{leb, ltb}
 use lib.ListN.{length, getD, take, drop, length-drop}
 use lib.Seq.{take-all}
 use Rattle.lamp_line.specs.declared.ProgramState.{ProgramState}
@@ -47,18 +48,17 @@ right-kinds kinds (kind ∷ lamps) e =
     (ltb-false _ _ (bounds .0), ltb-false _ _ (bounds .1), right-kinds kinds lamps (both .1))
 
 -- A line to which rule 15 does not apply is one of the job's lines.
-pub line-right : (t : Tables) (line : Line) → lineWrong (t .kinds) (t .ends) line ≡ false → Fits t line
-unfolding endKinds
+pub line-right : (t : Tables) (line : Line) → lineWrong (t .ends) (t .kinds) line ≡ false → Fits t line
 line-right t line e =
-    let to-end = neither _ (ltb (t .ends) (line .end)) e in
+    let to-end = neither _ (leb (endKinds (t .ends)) (line .end)) e in
     let to-kinds = neither (ltb 65535 (length (line .lamps))) _ (to-end .0) in
     record {
       of-kinds = right-kinds (t .kinds) (line .lamps) (to-kinds .1);
-      ended = omega (arith, ltb-false (t .ends) (line .end) (to-end .1));
+      ended = leb-false _ _ (to-end .1);
     }
 
 -- It has at most 65,535 lamps.
-pub line-few : (t : Tables) (line : Line) → lineWrong (t .kinds) (t .ends) line ≡ false → length (line .lamps) ≤ 65535
+pub line-few : (t : Tables) (line : Line) → lineWrong (t .ends) (t .kinds) line ≡ false → length (line .lamps) ≤ 65535
 line-few t line e = ltb-false _ _ (neither (ltb 65535 (length (line .lamps))) _ (neither _ _ e .0) .0)
 
 -- The converse: in a line of these kinds no lamp has a kind outside 1 to `kinds`.
@@ -70,14 +70,22 @@ none-outside kinds (kind ∷ lamps) (low, high, rest) =
 
 -- Rule 15 does not apply to a line of the job that is not too long.
 pub line-not-wrong :
-    (t : Tables) (line : Line) → length (line .lamps) ≤ 65535 → Fits t line → lineWrong (t .kinds) (t .ends) line ≡ false
-unfolding endKinds
+    (t : Tables) (line : Line) → length (line .lamps) ≤ 65535 → Fits t line → lineWrong (t .ends) (t .kinds) line ≡ false
 line-not-wrong t line few fits =
     rw (
       le-ltb 65535 (length (line .lamps)) few,
       none-outside (t .kinds) (line .lamps) (fits .of-kinds),
-      le-ltb (t .ends) (line .end) (omega (arith, fits .ended)),
+      lt-leb (endKinds (t .ends)) (line .end) (fits .ended),
     )
+
+-- The end's kind is not below E exactly when it is above the highest kind.
+pub not-an-end : (ends end : ℕ) → ltb ends end ≡ leb (endKinds ends) end
+unfolding endKinds
+not-an-end ends end = by (decLt ends end)
+  where
+    by : Dec (ends < end) → ltb ends end ≡ leb (ends + 1) end
+    by (yes above) = lt-ltb ends end above ∙ sym (le-leb (ends + 1) end (omega arith))
+    by (no below) = le-ltb ends end (omega arith) ∙ sym (lt-leb (ends + 1) end (omega arith))
 
 -- The lamps after the first are of these kinds too.
 kinds-after : (kinds : ℕ) (lamps : List ℕ) → Kinds kinds lamps → Kinds kinds (drop 1 lamps)
@@ -181,7 +189,7 @@ module _ {s : List ℕ} {j : Job} {limit end : ℕ} {lamps₀ : List ℕ} {start
         pub running-at-lamp : 0 < length rest
         running-at-lamp =
             arrived-at-lamp (tablesOf s) (well-formed s j opened) _ p (pair q w) (lineOf end rest) n
-            (rw (sym (tables-are s j opened)) (running .fits .ended)) at-column
+            (rw (ends-are s j opened) at (running .fits .ended)) at-column
 
         owes-on : RunOwes (tablesOf s) end lamps₀ (pair (j .first) start) (k + n) (drop 1 rest) (pair q w)
         owes-on = run-owes-passes (tablesOf s) end lamps₀ _ k rest p (running .owes) running-at-lamp (pair q w) n at-column

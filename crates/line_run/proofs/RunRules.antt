@@ -39,7 +39,7 @@ refusedIf applies number otherwise = cond applies (answer.Refused number) otherw
 pub run-by-rules : (s : List ℕ) (start : WorldState) (line : Line) (limit : ℕ) {j : Job} → Opened s j →
     runAnswer s start line limit
     ≡ refusedIf (not (tablesOf s .start start)) 14
-    (refusedIf (lineWrong (j .kinds) (j .ends) line) 15
+    (refusedIf (lineWrong (j .ends) (j .kinds) line) 15
     (runAnswerOf (limited limit (run (tablesOf s) start line))))
 unfolding runAnswer
 run-by-rules s start line limit {j} opened =
@@ -53,7 +53,7 @@ pub start-is-marked :
 start-is-marked s start is e = sym is ∙ not-false _ e
 
 pub line-is-right :
-    (s : List ℕ) (j : Job) (line : Line) {wrong : Bool} → wrong ≡ lineWrong (j .kinds) (j .ends) line → wrong ≡ false →
+    (s : List ℕ) (j : Job) (line : Line) {wrong : Bool} → wrong ≡ lineWrong (j .ends) (j .kinds) line → wrong ≡ false →
     Fits (tablesBy s j) line
 line-is-right s j line is e = line-right (tablesBy s j) line (sym is ∙ e)
 
@@ -70,7 +70,7 @@ module _ {x : Reading} (s : List ℕ) (start : WorldState) (line : Line) (limit 
     pub run-start-refused : not marked ≡ true → answer.Refused 14 ≡ runAnswer s start line limit
     run-start-refused unmarked = sym (run-by-rules s start line limit (sym read ∙ opened) ∙ rw (sym is-marked, unmarked))
 
-    module _ {wrong : Bool} (start-right : not marked ≡ false) (is-wrong : wrong ≡ lineWrong (j .kinds) (j .ends) line) where
+    module _ {wrong : Bool} (start-right : not marked ≡ false) (is-wrong : wrong ≡ lineWrong (j .ends) (j .kinds) line) where
       -- The line is wrong.
       pub run-line-refused : wrong ≡ true → answer.Refused 15 ≡ runAnswer s start line limit
       run-line-refused line-wrong =

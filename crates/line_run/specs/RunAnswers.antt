@@ -5,7 +5,7 @@ use Prim.Native.Nat.{ℕ}
 use lib.Dec.{leb, ltb}
 use lib.ListN.{length}
 use Rattle.lamp_line.specs.declared.WorldState.{WorldState}
-use Rattle.lamp_line.specs.Tables.{Tables, Line}
+use Rattle.lamp_line.specs.Tables.{Tables, Line, endKinds}
 use Rattle.lamp_line.specs.Refusals.{Rule, _when_, answerBy, some-of}
 use Rattle.lamp_line.specs.Run.{Limited, within, stopped, run, limited}
 use Rattle.job_layout.specs.JobTables.{tablesOf}
@@ -20,12 +20,13 @@ startUnmarked t start = leb (t .worlds) (start .0) || not (t .start start)
 
 -- 15: the line has more than 65,535 lamps, or a lamp or an end of a kind that the tables do not have.
 abbrev pub lineWrong : ℕ → ℕ → Line → Bool
-lineWrong kinds ends line = ltb 65535 (length (line .lamps)) || some-of (line .lamps) (outside 1 kinds) || ltb ends (line .end)
+lineWrong ends kinds line =
+    ltb 65535 (length (line .lamps)) || some-of (line .lamps) (outside 1 kinds) || leb (endKinds ends) (line .end)
 
 -- The refusals of the run: those of the file, then 14 and 15.
 abbrev pub runRules : List ℕ → WorldState → Line → List Rule
 runRules s start line =
-    fileRules s ++ (14 when startUnmarked (tablesOf s) start) ∷ (15 when lineWrong (tablesOf s .kinds) (tablesOf s .ends) line) ∷ []
+    fileRules s ++ (14 when startUnmarked (tablesOf s) start) ∷ (15 when lineWrong (tablesOf s .ends) (tablesOf s .kinds) line) ∷ []
 
 -- A run with a limit as an answer.
 abbrev pub runAnswerOf : Limited → RunAnswer

@@ -43,7 +43,7 @@ fn any_outside(line: &[u8], kinds: u8) -> bool
 }
 
 fn line_wrong(line: &[u8], end: u8, job: Job) -> bool
-    ensures { λ r. ⌜ r ≡ lineWrong (job .kinds) (job .ends) (lineOf end (now (line .entry))) ⌝ }
+    ensures { λ r. ⌜ r ≡ lineWrong (job .ends) (job .kinds) (lineOf end (now (line .entry))) ⌝ }
 {
     (65535 < line.len()) | any_outside(line, job.kinds) | (job.ends < end)
 }

@@ -10,7 +10,7 @@ use Rattle.lamp_line.specs.declared.WorldState.{WorldState}
 use Rattle.lamp_line.specs.Tables.{Tables, worldState, lampColumn}
 use Rattle.lamp_line.specs.inner.WellFormed.{WellFormed}
 use Rattle.lamp_line.specs.Run.{pair}
-use Rattle.lamp_line.proofs.Columns.{end-column-in, lamp-column-in, lamp-after-ends}
+use Rattle.lamp_line.proofs.Columns.{up-to-last-end, end-column-in, lamp-column-in, lamp-after-ends}
 use Rattle.search_laws.specs.inner.Entries.{Entry}
 use Rattle.check_laws.specs.inner.Fates.{startNode, fate}
 use Rattle.check_laws.specs.inner.Search.{goes-on, lineEntry, visit, atStart, atLamp, tried}
@@ -38,7 +38,7 @@ module _ {t : Tables} {E : List Entry} {place label end : ℕ} (first : place �
       record {
         so = record {
           range = start-in-range t wf (worldState label) (sym e);
-          column-range = end-column-in (t .ends) (t .kinds) end (omega arith);
+          column-range = end-column-in (t .ends) (t .kinds) end (up-to-last-end (t .ends) end is-end);
           going = at-end refl
               (first-place-tried E place label first t ∙ ap (atStart t E label) (sym e)
               ∙ ap (λ (h : ℕ). visit t E (lineEntry E h label (startNode t label))) (sym first));

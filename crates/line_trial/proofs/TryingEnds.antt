@@ -20,7 +20,7 @@ use Rattle.lamp_line.specs.inner.WellFormed.{WellFormed}
 use Rattle.lamp_line.specs.Endings.{kindNumber}
 use Rattle.lamp_line.specs.Run.{Pair, pair, Walk, ended, arrived, lampWalk}
 use Rattle.lamp_line.specs.Check.{accepted, failed}
-use Rattle.lamp_line.proofs.Columns.{end-column-in}
+use Rattle.lamp_line.proofs.Columns.{up-to-last-end, end-column-in}
 use Rattle.run_laws.specs.inner.Pairs.{InRange, pairNumber, pairs}
 use Rattle.run_laws.proofs.Pairs.{pair-number-in}
 use Rattle.run_laws.proofs.Walks.{arrived-in-range}
@@ -289,7 +289,7 @@ module _
           below = trying .below;
           goes = record {
             range = arrives-in-range looked (ready-tables (trying .ready)) e;
-            column-range = end-column-in (t .ends) (t .kinds) end (omega (arith, trying .is-end));
+            column-range = end-column-in (t .ends) (t .kinds) end (up-to-last-end (t .ends) end (trying .is-end));
             going = go (trying .goes .going);
           };
         }

@@ -1,7 +1,7 @@
 -- From one world state: it is added if it is a start, and the world state to which an entry leads from it if the cell has its result.
 -- From all of a set: the scan of its bits gathers them.
 use mathlib.Core.Path.{_≡_, refl, sym, _∙_}
-use mathlib.Core.Logic.{_≢_, inl, inr}
+use mathlib.Core.Logic.{_≢_}
 use mathlib.Core.Bool.{Bool, true, false, false≢true}
 use mathlib.Core.List.{List, [], _∷_}
 use Prim.Native.Nat.{ℕ, _+_, _*_, _≤_, _<_}
@@ -13,6 +13,7 @@ use Rattle.plans.specs.Execution.{Label}
 use Rattle.lamp_line.specs.declared.WorldState.{WorldState}
 use Rattle.lamp_line.specs.Lists.{_∈_}
 use Rattle.lamp_line.specs.Tables.{Outcome, outcome, Tables, worldState}
+use Rattle.lamp_line.proofs.Members.{none-in-empty, only-member}
 use Rattle.job_layout.specs.declared.Job.{Job}
 use Rattle.job_layout.specs.JobTables.{outcomes, tablesOf}
 use Rattle.job_file.specs.Reading.{Opened}
@@ -28,17 +29,6 @@ use Rattle.log_candidates.proofs.WorldSets.{adds-if, adds-same, gathere
 -- The bit of a world state is the one of its number, which the code has as the row of a table one wide.
 bit-of : {w : WorldState} {add : Bool} {at before after : ℕ} → at ≡ w .0 * 1 → AddedIf add before after at → AddedIf add before after (w .0)
 bit-of {w} e added = let same : w .0 * 1 ≡ w .0 = omega arith in rw (e ∙ same) at added
-
--- ---- the outcomes of a cell
-
-only-of : (x y : Outcome) → x ∈ (y ∷ []) → x ≡ y
-unfolding _∈_
-only-of x y (inl e) = e
-only-of x y (inr m) = absurd m
-
-none-in-nothing : (x : Outcome) → ¬ (x ∈ [])
-unfolding _∈_
-none-in-nothing x m = m
 
 -- ---- one world state
 
@@ -80,7 +70,7 @@ module _ (s : List ℕ) {j : Job} (opened : Opened s j) where
       let legal : ¬ (bytes .result ≡ 255) = λ is. omega (arith, in-range .result-range, laid-out s j opened .results-range) in
       let is : tablesOf s .cell (entry .action) w c ≡ outcome (bytes .next) (bytes .result) ∷ [] =
       sym (read .are) ∙ rw (ne-eqb _ _ legal) in (
-        λ leads. let same = only-of (outcome v (entry .result)) (outcome (bytes .next) (bytes .result)) (rw is at leads) in cc,
+        λ leads. let same = only-member (outcome v (entry .result)) (outcome (bytes .next) (bytes .result)) (rw is at leads) in cc,
         λ same. rw (is, same, ← same-result) (first-in (outcome (bytes .next) (bytes .result))),
       ))
       (λ miss v leads. elsewhere v (eqb-false _ _ miss) (eqb (bytes .result) 255) refl (rw (sym (read .are)) at leads))
@@ -88,9 +78,9 @@ module _ (s : List ℕ) {j : Job} (opened : Opened s j) where
       elsewhere :
           (v : WorldState) → bytes .result ≢ entry .result → (b : Bool) → eqb (bytes .result) 255 ≡ b →
           outcome v (entry .result) ∈ outcomes (bytes .next .0) (bytes .result) → ⊥
-      elsewhere v other true b leads = none-in-nothing _ (rw b at leads)
+      elsewhere v other true b leads = none-in-empty _ [] refl (rw b at leads)
       elsewhere v other false b leads =
-          let same = only-of (outcome v (entry .result)) (outcome (bytes .next) (bytes .result)) (rw b at leads) in
+          let same = only-member (outcome v (entry .result)) (outcome (bytes .next) (bytes .result)) (rw b at leads) in
           other (cc)
 
 -- ---- the world states of a set

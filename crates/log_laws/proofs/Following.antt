@@ -14,9 +14,10 @@ use Rattle.lamp_line.specs.Tables.{outcome, Tables, Line, Situation, Fits, endK
 use Rattle.lamp_line.specs.inner.WellFormed.{WellFormed}
 use Rattle.lamp_line.specs.Check.{situation}
 use Rattle.lamp_line.specs.Replay.{Possible}
-use Rattle.run_laws.proofs.Steps.{none-in-empty}
+use Rattle.lamp_line.proofs.Members.{none-in-empty}
+use Rattle.run_laws.proofs.Steps.{rest-fits}
 use Rattle.log_laws.specs.inner.Candidates.{Candidates, LeadsTo, FirstCandidates, NextCandidates, NextEntry, Stuck, GoesOn, Follows}
-use Rattle.run_laws.proofs.Columns.{column-is-below, lamp-before, some-column, line-at, rest-fits}
+use Rattle.run_laws.proofs.Columns.{column-is-below, lamp-before, some-column, line-at}
 
 module _ (t : Tables) where
   -- What gives a log leads somewhere.
@@ -121,7 +122,7 @@ module _ (t : Tables) where
           {w : WorldState} {c : ℕ} {rest : Line} → NextCandidates t From l w c → Fits t rest → column t rest ≡ c →
           (b : Bool) → movesOn t (actionOf l) ≡ b → LeadsTo t (log ++ (l ∷ [])) q′ w rest
       next-led-on n fits is-column true moving =
-          let at-lamp : ¬ (n .at < endKinds t) =
+          let at-lamp : ¬ (n .at < endKinds (t .ends)) =
           λ is-end. none-in-empty _ _ (wf .end-stays (actionOf l) (n .world) (n .at) moving is-end) (n .leads) in
           let before = lamp-before t fits (follows .at-column (n .candidate)) at-lamp in
           next-led (n .candidate) (n .leads) (before .fits) (before .is-column) (rw moving (sym (before .is-rest)))

@@ -1,3 +1,1 @@
-pub mod AnswerWords
-pub mod Fields
 pub mod Version

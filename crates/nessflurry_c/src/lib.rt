@@ -1,16 +1,23 @@
 // The operations as functions for C, with numbers and lent buffers only. `nessflurry_version` reports the version. Each of the others calls
 // the operation that it is named after, and answers what it answers as one number. They are called raw because the pointer of a slice
 // must not be NULL. C programs call the functions of include/nessflurry.h, which replace a NULL that has no elements by another pointer.
-mod words;
-
 ghost use mathlib.Core.Path.{_≡_};
 ghost use Rattle.lamp_line.specs.Tables.{programState, worldState, lineOf};
 ghost use Rattle.job_file.specs.Reading.{readingOf};
 ghost use Rattle.lamp_walk.specs.WalkAnswers.{walkAnswer};
 ghost use Rattle.line_run.specs.RunAnswers.{runAnswer};
 ghost use Rattle.cabinet.specs.CabinetAnswers.{beginAnswer, actionAnswer, reportAnswer};
-ghost use Rattle.nessflurry_c.specs.AnswerWords.{readWord, headNumbers, headAfter, walkWord, runWord, CheckedWord, CheckedUpToWord, beginWord, actionWord, reportWord, ReplayedWord};
+ghost use Rattle.answer_words.specs.AnswerWords.{readWord, headNumbers, headAfter, walkWord, runWord, CheckedWord, CheckedUpToWord, beginWord, actionWord, reportWord, ReplayedWord};
 ghost use Rattle.nessflurry_c.specs.Version.{version};
+use answer_words::action_word;
+use answer_words::begin_word;
+use answer_words::check_word;
+use answer_words::read_word;
+use answer_words::replay_word;
+use answer_words::report_word;
+use answer_words::run_word;
+use answer_words::short_word;
+use answer_words::walk_word;
 use cabinet::begin;
 use cabinet::next_action;
 use cabinet::report;
@@ -25,15 +32,6 @@ use line_run::run_line;
 use log_replay::replay_log;
 use plan_check::check_plan;
 use plan_check::check_up_to;
-use words::action_word;
-use words::begin_word;
-use words::check_word;
-use words::read_word;
-use words::replay_word;
-use words::report_word;
-use words::run_word;
-use words::short_word;
-use words::walk_word;
 
 // The version of include/nessflurry.h.
 const VERSION: u32 = 2;

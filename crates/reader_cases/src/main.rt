@@ -140,7 +140,7 @@ fn tables() {
     show(b"result R", &bench_with(33, 2));
     show(b"result 254", &bench_with(33, 254));
     show(b"255 with next 1", &bench_with(50, 1));
-    show(b"a moving-on action legal in column 0", &bench_with(28, 1));
+    show(b"moves on, legal at the end", &bench_with(28, 1));
     show(
         b"the same at the second of three ends",
         &three_ends_with(65, 0),

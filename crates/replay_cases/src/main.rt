@@ -102,7 +102,7 @@ fn other_plans() {
     replay(b"first state 4, any entry", &bench_with(5, 4), b"\0\x01");
 }
 
-// Lines that end in a cap, a joint box or a fuse box: each end gives its own logs, and stays what it is.
+// Lines with three ends, cap, joint box and fuse box: each gives its own logs, and stays what it is.
 fn end_kinds(file: &[u8]) {
     replay(b"the log of a cap", file, b"\0\0");
     replay(b"the log of a joint box", file, b"\0\x01\x02\0");

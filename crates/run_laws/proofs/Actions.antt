@@ -25,7 +25,8 @@ use Rattle.lamp_line.specs.Check.{situation}
 use Rattle.lamp_line.specs.Run.{Pair, pair, Move, ends, stays, passes, isFinal, judged, branched, carriedOut, act}
 use Rattle.plans.proofs.Executions.{Halted}
 use Rattle.run_laws.specs.inner.Pairs.{InRange}
-use Rattle.run_laws.proofs.Steps.{none-in-empty, one-outcome, step-in-range}
+use Rattle.lamp_line.proofs.Members.{none-in-empty}
+use Rattle.run_laws.proofs.Steps.{one-outcome, step-in-range}
 
 -- The first of a list is in it.
 first-in : {A : Type 0} (x : A) (l more : List A) → l ≡ x ∷ more → x ∈ l

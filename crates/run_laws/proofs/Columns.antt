@@ -1,19 +1,16 @@
 -- Columns and the lines of a job: each line is at one of the columns, each column is that of some line, and before each line there
 -- can be a lamp of any kind.
 use mathlib.Core.Path.{_≡_, refl}
-use mathlib.Core.Bool.{Bool, true, false, cond}
 use mathlib.Core.List.{List, [], _∷_}
 use Prim.Native.Nat.{ℕ, _-_, _<_}
 use native.Mathlib.Decide.{decLt}
 use native.Mathlib.Omega.{arith}
-use Rattle.plans.specs.Execution.{Label, T*, here, join, step}
-use Rattle.lamp_line.specs.declared.ProgramState.{ProgramState}
-use Rattle.lamp_line.specs.Tables.{Tables, Line, Situation, Kinds, Fits, endKinds, lampColumn, columns, column, passed, movesOn, lampTheory, planOf, lineOf}
+use Rattle.lamp_line.specs.Tables.{Tables, Line, Kinds, Fits, endKinds, lampColumn, columns, column, passed, lineOf}
 use Rattle.lamp_line.proofs.Columns.{end-column-in, lamp-column-in}
 
 module _ (t : Tables) where
   column-below :
-      (end : ℕ) (lamps : List ℕ) → end < endKinds t → Kinds (t .kinds) lamps → column t (lineOf end lamps) < columns (t .ends) (t .kinds)
+      (end : ℕ) (lamps : List ℕ) → end < endKinds (t .ends) → Kinds (t .kinds) lamps → column t (lineOf end lamps) < columns (t .ends) (t .kinds)
   unfolding endKinds Kinds
   column-below end [] e k = end-column-in (t .ends) (t .kinds) end e
   column-below end (kind ∷ lamps) e k = lamp-column-in (t .ends) (t .kinds) kind (k .1)
@@ -29,7 +26,7 @@ module _ (t : Tables) where
     pub is-column : column t line ≡ c
     pub is-rest : passed line ≡ rest
 
-  pub lamp-before : {rest : Line} {c : ℕ} → Fits t rest → c < columns (t .ends) (t .kinds) → ¬ (c < endKinds t) → LampBefore rest c
+  pub lamp-before : {rest : Line} {c : ℕ} → Fits t rest → c < columns (t .ends) (t .kinds) → ¬ (c < endKinds (t .ends)) → LampBefore rest c
   unfolding endKinds lampColumn columns Kinds
   lamp-before {rest} {c} fits c< not-end =
       record {
@@ -45,12 +42,12 @@ module _ (t : Tables) where
     pub fits : Fits t line
     pub is-column : column t line ≡ c
 
-  empty-line : {end : ℕ} → end < endKinds t → Fits t (lineOf end [])
+  empty-line : {end : ℕ} → end < endKinds (t .ends) → Fits t (lineOf end [])
   unfolding Kinds
   empty-line is-end = record { of-kinds = tt; ended = is-end }
 
   -- There is a kind of end.
-  pub some-end : 0 < endKinds t
+  pub some-end : 0 < endKinds (t .ends)
   unfolding endKinds
   some-end = omega arith
 
@@ -60,33 +57,10 @@ module _ (t : Tables) where
 
   -- Each column is that of some line.
   pub line-at : {c : ℕ} → c < columns (t .ends) (t .kinds) → LineAt c
-  line-at {c} c< = by (decLt c (endKinds t))
+  line-at {c} c< = by (decLt c (endKinds (t .ends)))
     where
-      by : Dec (c < endKinds t) → LineAt c
+      by : Dec (c < endKinds (t .ends)) → LineAt c
       by (yes is-end) = record { line = lineOf c []; fits = empty-line is-end; is-column = refl }
       by (no not-end) =
           let before = lamp-before (empty-line some-end) c< not-end in
           record { line = before .line; fits = before .fits; is-column = before .is-column }
-
-  -- An execution along a line of the job leaves a line of the job.
-  kinds-left : (b : Bool) (end : ℕ) (lamps : List ℕ) → Kinds (t .kinds) lamps → Kinds (t .kinds) (cond b (passed (lineOf end lamps)) (lineOf end lamps) .lamps)
-  unfolding Kinds
-  kinds-left false end lamps k = k
-  kinds-left true end [] k = tt
-  kinds-left true end (kind ∷ lamps) k = k .2
-
-  end-left : (b : Bool) (line : Line) → line .end < endKinds t → cond b (passed line) line .end < endKinds t
-  end-left true line e = e
-  end-left false line e = e
-
-  pub rest-fits :
-      {ls : List Label} {q q′ : ProgramState} {s s′ : Situation} → T* (lampTheory t) (planOf t) ls q s q′ s′ →
-      Fits t (s .rest) → Fits t (s′ .rest)
-  rest-fits here fits = fits
-  rest-fits (join a b) fits = rest-fits b (rest-fits a fits)
-  rest-fits (step {q = q} {s = s} x) fits =
-      rw (x .does .1)
-      (record {
-        of-kinds = kinds-left (movesOn t (t .action q)) (s .rest .end) (s .rest .lamps) (fits .of-kinds);
-        ended = end-left (movesOn t (t .action q)) (s .rest) (fits .ended);
-      })

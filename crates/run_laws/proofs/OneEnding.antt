@@ -86,7 +86,7 @@ module _ (t : Tables) (wf : WellFormed t) (start : WorldState) (line : Line) whe
         let before : b .at .rest ≡ c .at .rest = c .passes-none ns (b .state) (b .at) a in
         let after : c′ .at .rest ≡ c .at .rest = c .passes-none (ns ++ (l ∷ [])) (c′ .state) (c′ .at) (join a (step (b .last))) in
         let same-lamps = ap (λ (rest : Line). length (rest .lamps)) (before ∙ sym after) in
-        let same-end = end-kept t wf (b .before) in
+        let same-end = end-kept t (b .before) in
         let h = of .fits .ended in
         omega (arith, step-passes t wf (b .last) moves (rw same-end h))
 

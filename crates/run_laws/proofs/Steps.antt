@@ -1,5 +1,5 @@
 -- A step of the lamp line is determined, since a cell has at most one outcome. It leads from pairs of the tables to pairs of the
--- tables, keeps the line's end and, if its action moves on, leaves one lamp fewer.
+-- tables and, if its action moves on, leaves one lamp fewer. What is left of a line of the job is one, with the same end.
 use mathlib.Core.Path.{_≡_, refl, sym, ap, ap₂, _∙_}
 use mathlib.Core.Logic.{inl, inr}
 use mathlib.Core.Bool.{Bool, true, false, cond}
@@ -12,18 +12,13 @@ use Rattle.plans.specs.Execution.{Label, did, actionOf, resultOf, Step, T*, her
 use Rattle.lamp_line.specs.declared.ProgramState.{ProgramState}
 use Rattle.lamp_line.specs.declared.WorldState.{WorldState}
 use Rattle.lamp_line.specs.Lists.{_∈_}
-use Rattle.lamp_line.specs.Tables.{outcome, Tables, Situation, movesOn, endKinds, column, passed, lampTheory, planOf}
+use Rattle.lamp_line.specs.Tables.{outcome, Tables, Situation, movesOn, lineOf, endKinds, column, passed, Kinds, Fits, lampTheory, planOf}
 use Rattle.lamp_line.specs.inner.WellFormed.{WellFormed}
 use Rattle.lamp_line.specs.Check.{situation}
 use Rattle.lamp_line.specs.Run.{pair}
+use Rattle.lamp_line.proofs.Members.{none-in-empty}
 use Rattle.plans.proofs.Executions.{StepsDetermined}
 use Rattle.run_laws.specs.inner.Pairs.{InRange}
-
--- Nothing is in an empty list.
-pub none-in-empty : {A : Type 0} (x : A) (l : List A) → l ≡ [] → ¬ (x ∈ l)
-unfolding _∈_
-none-in-empty x [] h m = m
-none-in-empty x (y ∷ l) h m = omega (arith, ap length h)
 
 -- An element of a list of at most one element is that element.
 only-one : {A : Type 0} (x : A) (l : List A) → length l ≤ 1 → x ∈ l → l ≡ x ∷ []
@@ -77,22 +72,10 @@ module _ (t : Tables) (wf : WellFormed t) where
   execution-in-range (join a b) h = execution-in-range b (execution-in-range a h)
   execution-in-range (step x) h = step-in-range x
 
-  -- An execution keeps the line's end.
-  pub end-kept :
-      {ls : List Label} {q q′ : ProgramState} {s s′ : Situation} → T* (lampTheory t) (planOf t) ls q s q′ s′ →
-      s′ .rest .end ≡ s .rest .end
-  end-kept here = refl
-  end-kept (join a b) = end-kept b ∙ end-kept a
-  end-kept (step {q = q} {s = s} x) = ap (λ line. line .end) (x .does .1) ∙ kept (movesOn t (t .action q))
-    where
-      kept : (b : Bool) → (cond b (passed (s .rest)) (s .rest)) .end ≡ s .rest .end
-      kept true = refl
-      kept false = refl
-
   -- A step that moves on leaves one lamp fewer; at the line's end no step moves on.
   pub step-passes :
       {l : Label} {q q′ : ProgramState} {s s′ : Situation} → Step (lampTheory t) (planOf t) q s l q′ s′ →
-      movesOn t (actionOf l) ≡ true → s .rest .end < endKinds t → length (s .rest .lamps) ≡ suc (length (s′ .rest .lamps))
+      movesOn t (actionOf l) ≡ true → s .rest .end < endKinds (t .ends) → length (s .rest .lamps) ≡ suc (length (s′ .rest .lamps))
   step-passes {l} {q} {q′} {s} {s′} x m h = go (s .rest .lamps) refl
     where
       moves : movesOn t (t .action q) ≡ true
@@ -108,3 +91,40 @@ module _ (t : Tables) (wf : WellFormed t) where
           absurd (none-in-empty (outcome (s′ .world) (resultOf l)) (t .cell (t .action q) (s .world) (column t (s .rest)))
           illegal (x .does .0))
       go (kind ∷ lamps) e = ap (λ (rest : List ℕ). suc (length rest)) (sym (rw e at (ap (λ line. line .lamps) passes)))
+
+-- ---- what is left of the line
+
+module _ (t : Tables) where
+  -- An execution keeps the line's end.
+  pub end-kept :
+      {ls : List Label} {q q′ : ProgramState} {s s′ : Situation} → T* (lampTheory t) (planOf t) ls q s q′ s′ →
+      s′ .rest .end ≡ s .rest .end
+  end-kept here = refl
+  end-kept (join a b) = end-kept b ∙ end-kept a
+  end-kept (step {q = q} {s = s} x) = ap (λ line. line .end) (x .does .1) ∙ kept (movesOn t (t .action q))
+    where
+      kept : (b : Bool) → (cond b (passed (s .rest)) (s .rest)) .end ≡ s .rest .end
+      kept true = refl
+      kept false = refl
+
+  -- An execution along a line of the job leaves a line of the job.
+  kinds-left :
+      {ls : List Label} {q q′ : ProgramState} {s s′ : Situation} → T* (lampTheory t) (planOf t) ls q s q′ s′ →
+      Kinds (t .kinds) (s .rest .lamps) → Kinds (t .kinds) (s′ .rest .lamps)
+  kinds-left here k = k
+  kinds-left (join a b) k = kinds-left b (kinds-left a k)
+  kinds-left (step {q = q} {s = s} x) k =
+      rw (x .does .1) (left (movesOn t (t .action q)) (s .rest .end) (s .rest .lamps) k)
+    where
+      left :
+          (b : Bool) (end : ℕ) (lamps : List ℕ) → Kinds (t .kinds) lamps →
+          Kinds (t .kinds) (cond b (passed (lineOf end lamps)) (lineOf end lamps) .lamps)
+      left false end lamps k = k
+      left true end [] k = unfold Kinds in tt
+      left true end (kind ∷ lamps) k = unfold Kinds in k .2
+
+  pub rest-fits :
+      {ls : List Label} {q q′ : ProgramState} {s s′ : Situation} → T* (lampTheory t) (planOf t) ls q s q′ s′ →
+      Fits t (s .rest) → Fits t (s′ .rest)
+  rest-fits execution fits =
+      record { of-kinds = kinds-left execution (fits .of-kinds); ended = rw (end-kept execution) (fits .ended) }

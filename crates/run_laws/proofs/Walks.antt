@@ -173,7 +173,7 @@ module _ (t : Tables) where
 
     -- A walk passes a lamp only if there is one.
     pub arrived-at-lamp :
-        (n : ℕ) (p p′ : Pair) (line : Line) (k : ℕ) → line .end < endKinds t →
+        (n : ℕ) (p p′ : Pair) (line : Line) (k : ℕ) → line .end < endKinds (t .ends) →
         arrived p′ k ≡ walk t n p (column t line) → 0 < length (line .lamps)
     arrived-at-lamp n p p′ line k h e = go (subst (λ v. WalkMeans line n p v) (sym e) (walk-means n p line))
       where

@@ -62,7 +62,7 @@ module _ (g : Graph) (E : List Entry) (q : ℕ) (b : Begun g E q) where
         ap (entryAt (grown E z)) e ∙ grown-new E z
 
     -- The start q begins at a node that fails at no end: the node is added.
-    pub begin-add : ((e f : ℕ) → e < g .ends → ¬ (g .BadEnd x e f)) → Begun g (grown E (entry x q [])) (q + 1)
+    pub begin-add : ((e f : ℕ) → e < g .endCount → ¬ (g .BadEnd x e f)) → Begun g (grown E (entry x q [])) (q + 1)
     unfolding z
     begin-add good = starts-tested taken none
       where
@@ -71,7 +71,7 @@ module _ (g : Graph) (E : List Entry) (q : ℕ) (b : Begun g E q) where
 
     -- The node fails at an end, and e is the lowest such: the empty line is the least failing line.
     pub begin-lowest :
-        (e f : ℕ) → e < g .ends → g .BadEnd x e f → ((e′ f′ : ℕ) → e′ < e → ¬ (g .BadEnd x e′ f′)) → Least g [] e q f
+        (e f : ℕ) → e < g .endCount → g .BadEnd x e f → ((e′ f′ : ℕ) → e′ < e → ¬ (g .BadEnd x e′ f′)) → Least g [] e q f
     unfolding z
     begin-lowest e f le bad lowest = early-least taken me least (λ s′ y ge st′. stem-start q s′ (omega arith))
       where

@@ -29,7 +29,7 @@ module _ (g : Graph) where
 
   -- If a node is reached and a line fails from it, the lamps passed, followed by that line, fail from the start.
   pub reach-fails :
-      {s x e f : ℕ} {p r : List ℕ} → Reach g s p x → Kinds (g .kinds) r → e < g .ends → FailsAlong g x r e f → FailsFrom g s (p ++ r) e f
+      {s x e f : ℕ} {p r : List ℕ} → Reach g s p x → Kinds (g .kinds) r → e < g .endCount → FailsAlong g x r e f → FailsFrom g s (p ++ r) e f
   unfolding Kinds
   reach-fails (from-start h) v l d = record { first = _; start = h; of-kinds = v; ended = l; fails = d }
   reach-fails {e = e} {f = f} {r = r} (past-lamp {s = s} {c = c} {p = p} h k t) v l d =

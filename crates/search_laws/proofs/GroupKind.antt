@@ -24,7 +24,7 @@ use Rattle.search_laws.proofs.Invariant.{IsTried, GroupTried, tried?, I
 pub data AtHand (g : Graph) (E : List Entry) (a b k n : ℕ) : List ℕ → ℕ → ℕ → ℕ → Type 0 where
   at-lamp : {f : ℕ} (i : ℕ) → a ≤ i → i < b → g .Bad (node E i) k f → AtHand g E a b k n (path E i ▸ k) 0 (start E i) f
   at-end :
-      {e f : ℕ} (i : ℕ) → n ≤ i → i < length E → e < g .ends → g .BadEnd (node E i) e f →
+      {e f : ℕ} (i : ℕ) → n ≤ i → i < length E → e < g .endCount → g .BadEnd (node E i) e f →
       AtHand g E a b k n (path E i) e (start E i) f
 
 module _ {g : Graph} {E : List Entry} {a b k n : ℕ} (inv : Invariant g E a b k b n) where
@@ -32,7 +32,7 @@ module _ {g : Graph} {E : List Entry} {a b k n : ℕ} (inv : Invariant g E a b k
   found-stem (at-lamp i x y h) = stem-more (start E i) (start E a) (path E i) (path E a) k (inv .one-stem i x y)
   found-stem (at-end i x l le h) = inv .new-stems i x l
 
-  found-fails : {l : List ℕ} {e s f : ℕ} → Kind (g .kinds) k → 0 < g .ends → AtHand g E a b k n l e s f → FailsFrom g s l e f
+  found-fails : {l : List ℕ} {e s f : ℕ} → Kind (g .kinds) k → 0 < g .endCount → AtHand g E a b k n l e s f → FailsFrom g s l e f
   unfolding Kinds
   found-fails kind pos (at-lamp i x y h) =
       reach-fails g (inv .real i (group-in-table inv i y)) (kind .low, kind .high, tt) pos (bad-lamp h)
@@ -56,7 +56,7 @@ module _ {g : Graph} {E : List Entry} {a b k n : ℕ} (inv : Invariant g E a b k
 
   -- The least of the failures at hand is the least of all failures.
   pub found-least :
-      {l : List ℕ} {e s f : ℕ} → Kind (g .kinds) k → 0 < g .ends → AtHand g E a b k n l e s f →
+      {l : List ℕ} {e s f : ℕ} → Kind (g .kinds) k → 0 < g .endCount → AtHand g E a b k n l e s f →
       ((l′ : List ℕ) (e′ s′ f′ : ℕ) → AtHand g E a b k n l′ e′ s′ f′ → key l e s f ≼ key l′ e′ s′ f′) → Least g l e s f
   found-least {l} {e} {s} {f} kind pos me least = record { fails = found-fails kind pos me; least = of-all }
     where

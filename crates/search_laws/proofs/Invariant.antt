@@ -42,7 +42,7 @@ pub record Invariant (g : Graph) (E : List Entry) (a b k m n : ℕ) : Type 0 whe
   -- No entry fails at a kind of lamp with which its whole group was tried.
   pub lamps-good : (i c f : ℕ) → i < length E → Kind (g .kinds) c → GroupTried a b k i c → ¬ (g .Bad (node E i) c f)
   -- None of the first n entries fails at an end.
-  pub ends-good : (i e f : ℕ) → i < n → e < g .ends → ¬ (g .BadEnd (node E i) e f)
+  pub ends-good : (i e f : ℕ) → i < n → e < g .endCount → ¬ (g .BadEnd (node E i) e f)
   -- The start and the lamps of an entry lead to its node.
   pub real : (i : ℕ) → i < length E → Reach g (start E i) (path E i) (node E i)
   -- The entries are in the order of their keys.

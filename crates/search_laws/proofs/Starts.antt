@@ -30,12 +30,12 @@ pub record StartsTaken (g : Graph) (E : List Entry) (q n : ℕ) : Type 0 where
   -- No node is in the table twice.
   pub distinct : (i j : ℕ) → i < j → j < length E → node E i ≢ node E j
   -- None of the first n entries fails at an end.
-  pub ends-good : (i e f : ℕ) → i < n → e < g .ends → ¬ (g .BadEnd (node E i) e f)
+  pub ends-good : (i e f : ℕ) → i < n → e < g .endCount → ¬ (g .BadEnd (node E i) e f)
   pub n≤length : n ≤ length E
 
 -- A failure of an entry that is not tested yet, with its end, its start and its kind.
 pub data Early (g : Graph) (E : List Entry) (n : ℕ) : ℕ → ℕ → ℕ → Type 0 where
-  early : {e f : ℕ} (i : ℕ) → n ≤ i → i < length E → e < g .ends → g .BadEnd (node E i) e f → Early g E n e (start E i) f
+  early : {e f : ℕ} (i : ℕ) → n ≤ i → i < length E → e < g .endCount → g .BadEnd (node E i) e f → Early g E n e (start E i) f
 
 module _ {g : Graph} {E : List Entry} {q n : ℕ} (b : StartsTaken g E q n) where
   -- The number q has no node: it is skipped.

@@ -47,7 +47,7 @@ module _ (g : Graph) (E : List Entry) (h k : ℕ) (at : At g E h k) where
 
   module _ (plain : Plain g) (kind : Kind (g .kinds) k) where
     -- The lamp fails: the entry's line with this lamp is the least failing line.
-    pub fails-lamp : 0 < g .ends → (f : ℕ) → g .Bad (node E h) k f → Least g (path E h ▸ k) 0 (start E h) f
+    pub fails-lamp : 0 < g .endCount → (f : ℕ) → g .Bad (node E h) k f → Least g (path E h ▸ k) 0 (start E h) f
     fails-lamp pos f b = found-least tried kind pos (at-lamp h (omega arith) here b) least
       where
         tried : Invariant g E h (h + 1) k (h + 1) (length E)
@@ -95,7 +95,7 @@ module _ (g : Graph) (E : List Entry) (h k : ℕ) (at : At g E h k) where
           (ap (entryAt (grown E z)) (is-last i x l) ∙ grown-new E z) b
 
       -- The node fails at no end: it is added, and the next kind is tried.
-      pub turn-add : ((e f : ℕ) → e < g .ends → ¬ (g .BadEnd y e f)) → At g (grown E (onward E h k y)) h (k + 1)
+      pub turn-add : ((e f : ℕ) → e < g .endCount → ¬ (g .BadEnd y e f)) → At g (grown E (onward E h k y)) h (k + 1)
       unfolding z
       turn-add good =
           record {
@@ -109,7 +109,7 @@ module _ (g : Graph) (E : List Entry) (h k : ℕ) (at : At g E h k) where
 
       -- The node fails at an end, and e is the lowest such: the line that leads to it is the least failing line.
       pub fails-end :
-          (e f : ℕ) → e < g .ends → g .BadEnd y e f → ((e′ f′ : ℕ) → e′ < e → ¬ (g .BadEnd y e′ f′)) →
+          (e f : ℕ) → e < g .endCount → g .BadEnd y e f → ((e′ f′ : ℕ) → e′ < e → ¬ (g .BadEnd y e′ f′)) →
           Least g (path E h ▸ k) e (start E h) f
       unfolding z
       fails-end e f le b lowest =

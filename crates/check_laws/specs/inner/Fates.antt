@@ -46,4 +46,4 @@ module _ (t : Tables) where
 
   -- The pair at all kinds of ends.
   abbrev pub atEnds : ℕ → AtEnds
-  atEnds x = endsFrom (endKinds t) 0 x
+  atEnds x = endsFrom (endKinds (t .ends)) 0 x

@@ -26,7 +26,7 @@ pub record WellFormed (t : Tables) : Type 0 where
   pub next-range : (a : Action) (w w′ : WorldState) (c : ℕ) (r : Result) → outcome w′ r ∈ t .cell a w c → w′ .0 < t .worlds
   pub result-range : (a : Action) (w w′ : WorldState) (c : ℕ) (r : Result) → outcome w′ r ∈ t .cell a w c → r < t .results
   -- refusal 7: an action that moves on is not legal at a line's end
-  pub end-stays : (a : Action) (w : WorldState) (c : ℕ) → movesOn t a ≡ true → c < endKinds t → t .cell a w c ≡ []
+  pub end-stays : (a : Action) (w : WorldState) (c : ℕ) → movesOn t a ≡ true → c < endKinds (t .ends) → t .cell a w c ≡ []
   pub start-range : (w : WorldState) → t .start w ≡ true → w .0 < t .worlds
   pub some-start : (w : WorldState) × (t .start w ≡ true)
   pub action-range : (q : ProgramState) → q .0 < t .states → t .action q < t .actions

@@ -1,4 +1,4 @@
--- At a lamp the answer is false; at the line's end it is the pair's bit.
+-- At the lowest end the answer is the pair's bit; at every other column it is false.
 use borrow.Author.Needs.{needs}
 use borrow.Author.Tests.{eq-eqb, ne-eqb}
 use Rattle.line_trial.proofs.is_met.Statement.{statement}

@@ -1,7 +1,7 @@
 -- The operation's answer, as its number.
 use borrow.Author.Needs.{needs}
 use mathlib.Core.Path.{ap, _∙_}
-use Rattle.nessflurry_c.specs.AnswerWords.{actionWord}
+use Rattle.answer_words.specs.AnswerWords.{actionWord}
 use Rattle.nessflurry_c.proofs.nessflurry_raw_action.Statement.{statement}
 use Rattle.nessflurry_c.proofs.nessflurry_raw_action.Tie as tie
 

@@ -1,7 +1,7 @@
 -- A refusal leaves the lent numbers as they are; otherwise they become the job's.
 use borrow.Author.Needs.{needs}
 use mathlib.Core.Path.{refl, sym, ap, _∙_}
-use Rattle.nessflurry_c.specs.AnswerWords.{readWord}
+use Rattle.answer_words.specs.AnswerWords.{readWord}
 use Rattle.nessflurry_c.proofs.nessflurry_raw_read.Statement.{statement}
 use Rattle.nessflurry_c.proofs.nessflurry_raw_read.Tie as tie
 

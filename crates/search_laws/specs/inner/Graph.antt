@@ -8,9 +8,9 @@ use Rattle.search_laws.specs.inner.Lists.{_▸_}
 
 -- A line leads through the graph from a start, lamp by lamp.
 pub record Graph : Type 1 where
-  -- Lamps have the kinds 1 to `kinds`, ends of lines the kinds below `ends`.
+  -- Lamps have the kinds 1 to `kinds`, ends of lines the kinds below `endCount`.
   pub kinds : ℕ
-  pub ends : ℕ
+  pub endCount : ℕ
   -- A start, and a node where it begins.
   pub Start : ℕ → ℕ → Type 0
   -- A node, a kind of lamp, and a node at the next lamp.
@@ -42,7 +42,7 @@ module _ (g : Graph) where
     pub first : ℕ
     pub start : g .Start s first
     pub of-kinds : Kinds (g .kinds) l
-    pub ended : e < g .ends
+    pub ended : e < g .endCount
     pub fails : FailsAlong first l e f
 
 -- Each start has one node, which no other start has. At each kind of lamp a node has at most one edge or one failure, and not both;

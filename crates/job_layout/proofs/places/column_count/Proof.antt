@@ -1,6 +1,6 @@
 -- The columns of the ends, and as many as there are kinds of lamps.
 use borrow.Author.Needs.{needs}
-use Rattle.lamp_line.specs.Tables.{columns}
+use Rattle.lamp_line.specs.Tables.{endKinds, columns}
 use Rattle.job_layout.proofs.places.column_count.Statement.{statement}
 use Rattle.job_layout.proofs.places.column_count.Tie as tie
 
@@ -17,7 +17,7 @@ add-result-2 : tie.Need-add-result-2
 add-result-2 c = search needs
 
 returns : tie.Need-returns
-unfolding columns
+unfolding endKinds columns
 returns c = search needs
 
 pub column-count-spec : {M : Type 1} → statement M
