@@ -50,8 +50,8 @@ static const struct {
     enum size size;
 } sized[] = {
     {"small domain", JOB_RANDOM, SMALL},       {"small domain", JOB_RANDOM_FAILURE, SMALL},
-    {"lock", JOB_LONG_FAILURE, SMALL},         {"lock", JOB_LONG_FAILURE, MIDDLE},
-    {"lock", JOB_LONG_FAILURE, FULL},          {"over at once", JOB_AT_ONCE, FULL},
+    {"long failure", JOB_LONG_FAILURE, SMALL}, {"long failure", JOB_LONG_FAILURE, MIDDLE},
+    {"long failure", JOB_LONG_FAILURE, FULL},  {"over at once", JOB_AT_ONCE, FULL},
     {"over at once", JOB_FIRST_LAMP, FULL},    {"over at once", JOB_CIRCLE, FULL},
     {"over soon", JOB_RANDOM_FAILURE, MIDDLE}, {"over soon", JOB_RANDOM_FAILURE, FULL},
     {"many pairs", JOB_ACCEPTED, SMALL},       {"many pairs", JOB_ACCEPTED, MIDDLE},

@@ -11,7 +11,7 @@ static void print_measured(const char *operation, side_call *call, const struct 
     double best[SIDES];
     uint64_t answer = measure(call, subject, SIDES, best);
     double ratio = best[NESSFLURRY] / best[PLAIN];
-    printf("%-10s%-20s%14.0f%14.0f%9.3f", operation, subject->name, best[NESSFLURRY], best[PLAIN], ratio);
+    printf("%-10s%-23s%14.0f%14.0f%9.3f", operation, subject->name, best[NESSFLURRY], best[PLAIN], ratio);
     print_answer(call, subject, answer);
     note(worst, ratio, subject);
 }
@@ -73,7 +73,7 @@ static void print_replays(void)
 void print_operations(void)
 {
     printf("\nreader, run, report and replay; the ratio is nessflurry / plain\n\n");
-    printf("%-10s%-20s%14s%14s%9s\n", "operation", "job", "nessflurry", "plain", "ratio");
+    printf("%-10s%-23s%14s%14s%9s\n", "operation", "job", "nessflurry", "plain", "ratio");
     print_operation("reader", call_reader);
     print_operation("run", call_run);
     print_operation("report", call_report);

@@ -5,7 +5,7 @@
  * At last files of one end kind are answered, and have to have the answers that they had before there were several.
  *
  *     compare           the standard run
- *     compare long      some twenty times as many files
+ *     compare long      some seven times as many files
  *     compare short     every seventeenth file
  *     compare only N    file N
  */
@@ -116,10 +116,10 @@ static void try_large(void)
 }
 
 /* They are many files, for which there is more patience than for one. */
-static bool old_answers_moved(void)
+static void try_old_answers(void)
 {
     alarm(10 * PATIENCE_SECONDS);
-    return !old_answers_hold();
+    compare_old_answers();
 }
 
 int main(int argc, char **argv)
@@ -134,8 +134,9 @@ int main(int argc, char **argv)
     try_large();
     on_small_stack(try_all, &numbers);
     print_tally();
-    bool only_one = numbers.to - numbers.from == 1;
-    bool something_missing = !only_one && !all_seen(), something_moved = !only_one && old_answers_moved();
+    bool only_one = numbers.to - numbers.from == 1, something_missing = !only_one && !all_seen();
+    if (!only_one)
+        try_old_answers();
     print_comparisons();
-    return something_missing || something_moved || differences() > 0;
+    return something_missing || differences() > 0;
 }

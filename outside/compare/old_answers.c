@@ -6,6 +6,7 @@
 #include "job_files/families.h"
 #include "job_files/logs.h"
 #include "sides.h"
+#include "tally.h"
 
 #include <inttypes.h>
 #include <stdio.h>
@@ -13,9 +14,11 @@
 enum { FILES = 10000 };
 
 /*
- * The answers that the plain implementation of version 1 of nessflurry.h, which knew no end kinds, gave on these files: this file
- * was compiled with it and with the families of that time, where one_end_job was all of random_job, and no run and no execution
- * had an end. It may move only with a request that moves answers on files of one end kind.
+ * The answers that the plain implementation of version 1 of nessflurry.h, which knew no end kinds, gives on these files. They are
+ * made from random numbers, so this number depends on what job_files/ draws for them as much as on the answers. Where a draw
+ * moves, it is made anew: as answers_of the plain side, with this file and the present job_files/ compiled against plain*.c and
+ * nessflurry.h of version 1, in which a run is handed no end. Where a request moves answers on files of one end kind, the same
+ * change is made in that plain*.c first.
  */
 #define OLD_ANSWERS UINT64_C(0x832A824808D049AF)
 
@@ -120,15 +123,13 @@ static uint64_t answers_of(const struct side *side)
     return answers.state;
 }
 
-bool old_answers_hold(void)
+void compare_old_answers(void)
 {
-    bool all = true;
     for (int i = 0; i < SIDES; i++) {
         uint64_t now = answers_of(&sides[i]);
-        if (now != OLD_ANSWERS) {
-            printf("%s: not the old answers on files of one end kind (%016" PRIx64 ")\n", sides[i].name, now);
-            all = false;
-        }
+        if (now == OLD_ANSWERS)
+            continue;
+        printf("difference: %s has not the old answers on files of one end kind (%016" PRIx64 ")\n", sides[i].name, now);
+        count_difference();
     }
-    return all;
 }

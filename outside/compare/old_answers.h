@@ -4,9 +4,7 @@
 #ifndef OUTSIDE_OLD_ANSWERS_H
 #define OUTSIDE_OLD_ANSWERS_H
 
-#include <stdbool.h>
-
-/* Whether each side answers on all of them what they were answered then, with end kind 0; names a side that does not. */
-bool old_answers_hold(void);
+/* Each side owes on all of them what they were answered then, with end kind 0. A side that differs is named, and counted. */
+void compare_old_answers(void);
 
 #endif

@@ -103,6 +103,8 @@ void demand_equal(uint64_t nessflurry, uint64_t plain)
     demand(false, demanded);
 }
 
+void count_difference(void) { differing++; }
+
 static void note_most(uint32_t *most, uint32_t count)
 {
     if (count > *most)

@@ -29,6 +29,9 @@ void count_null(enum lendable what);
 void demand(bool holds, const char *demanded);
 void demand_equal(uint64_t nessflurry, uint64_t plain);
 
+/* Counts a difference that no single call has, and of which the caller tells. */
+void count_difference(void);
+
 void print_tally(void);
 
 /*

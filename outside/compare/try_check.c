@@ -27,14 +27,24 @@ static void try_limit(uint8_t start, const uint8_t *kinds, size_t lamps, uint8_t
         demand(ends_in(answer, NESSFLURRY_STOPPED) && nessflurry_steps_of(answer) == limit, "stopped at the limit");
 }
 
+static bool has_kinds(const struct job *job, const uint8_t *kinds, size_t lamps)
+{
+    for (size_t lamp = 0; lamp < lamps; lamp++)
+        if (kinds[lamp] < 1 || kinds[lamp] > job->kinds)
+            return false;
+    return true;
+}
+
 void try_run(struct trial *trial)
 {
     struct random *random = &trial->random;
     uint8_t start = any_start(&trial->job, random), end = any_end(&trial->job, random);
     size_t lamps = choose_line(&trial->job, random, line);
     uint64_t ending = compare_run(start, line, lamps, end, high_limit(&trial->job, lamps));
-    demand(is_end(&trial->job, end) || ends_in(ending, NESSFLURRY_REFUSED), "no run to an end that the job does not have");
-    if (ends_in(ending, NESSFLURRY_REFUSED) || ends_in(ending, NESSFLURRY_STOPPED))
+    bool refused = ends_in(ending, NESSFLURRY_REFUSED);
+    demand(refused || is_end(&trial->job, end), "no run to an end that the job does not have");
+    demand(refused || has_kinds(&trial->job, line, lamps), "no run along lamps of a kind that the job does not have");
+    if (refused || ends_in(ending, NESSFLURRY_STOPPED))
         return;
     uint32_t steps = nessflurry_steps_of(ending);
     uint32_t any = (uint32_t)random_word(random), less = below(random, steps + 1);

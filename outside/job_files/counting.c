@@ -11,18 +11,21 @@
  */
 #include "families.h"
 
-enum { OTHERWISE, FOUND, BOX }; /* the results of looking: the last at a box, if the job has more than two results */
+enum { OTHERWISE, FOUND, ODD_END }; /* the results of looking: the last at an end of an odd kind, where that is told */
 
-/* The world that another kind leaves, and a box: there the goal is true at lamps too. */
+/* The world that another kind leaves, and an odd end: there the goal is true at lamps too. */
 static uint8_t other_world(const struct job *job) { return job->worlds > 1; }
 
-static bool has_boxes(const struct job *job) { return job->last_end > 0 && job->results > BOX; }
+static bool looks_tell_odd_ends(const struct job *job)
+{
+    return job->last_end > 0 && job->worlds > 1 && job->results > ODD_END;
+}
 
-/* In the other world a box is an end like the others. */
+/* In the other world an odd end is like the others. */
 static struct cell look_at_end(const struct job *job, uint8_t world, uint8_t end)
 {
-    bool box = has_boxes(job) && end % 2 == 1;
-    return box && world != other_world(job) ? (struct cell){other_world(job), BOX} : (struct cell){world, OTHERWISE};
+    bool told = looks_tell_odd_ends(job) && end % 2 == 1 && world != other_world(job);
+    return told ? (struct cell){other_world(job), ODD_END} : (struct cell){world, OTHERWISE};
 }
 
 static struct cell look(const struct job *job, uint8_t sought, uint8_t world, uint8_t kind)
@@ -66,8 +69,8 @@ static void counting_group(struct job *job, uint8_t base, uint8_t looking, uint8
         job->action[base + i] = i;
         job->target[base + i][OTHERWISE] = job->states;
         job->target[base + i][FOUND] = mover;
-        if (has_boxes(job))
-            job->target[base + i][BOX] = base + i;
+        if (looks_tell_odd_ends(job))
+            job->target[base + i][ODD_END] = base + i;
         job->target[mover][i] = base + i;
     }
     job->action[mover] = looking;

@@ -29,7 +29,7 @@ static bool wrong_size(struct file *file, const struct job *job, struct random *
     return true;
 }
 
-static bool wrong_number(struct file *file, const struct job *job, struct random *random)
+static bool wrong_byte(struct file *file, const struct job *job, struct random *random)
 {
     /* C and E - 1 by what the file says of the other, since another defect may have changed that. */
     const uint8_t most_kinds = MOST_KINDS - file->bytes[LAST_END_AT], most_last_end = MOST_KINDS - file->bytes[KINDS_AT];
@@ -39,6 +39,20 @@ static bool wrong_number(struct file *file, const struct job *job, struct random
     bool too_low = at < 4 && one_in(random, 3); /* S, the first state and the last two bytes may be 0 */
     file->bytes[at] = too_low ? 0 : above(random, most[at]);
     return true;
+}
+
+/* Each column an end kind, so that none is left for lamps: as many columns as there are, or as many as there can be. */
+static bool no_kinds(struct file *file, const struct job *job, struct random *random)
+{
+    uint8_t columns = one_in(random, 2) ? columns_of(job) : MOST_COLUMNS;
+    file->bytes[LAST_END_AT] = columns - 1;
+    file->bytes[KINDS_AT] = 0;
+    return true;
+}
+
+static bool wrong_number(struct file *file, const struct job *job, struct random *random)
+{
+    return one_in(random, 8) ? no_kinds(file, job, random) : wrong_byte(file, job, random);
 }
 
 static bool wrong_offset(struct file *file, enum part part, struct random *random)

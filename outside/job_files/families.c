@@ -292,7 +292,7 @@ static void spoil_ends(struct job *job, struct random *random)
             job->goal[world][end] = !one_in(random, rarity);
 }
 
-static void paper_job(struct job *job, struct random *random, bool several_ends)
+static void known_job(struct job *job, struct random *random, bool several_ends)
 {
     if (several_ends)
         three_ends_job(job);
@@ -308,7 +308,7 @@ static void make_job(struct job *job, struct random *random, bool several_ends)
     case 1: wild_job(job, random, several_ends); break;
     case 2: random_counting_job(job, random, several_ends); break;
     case 3: random_turning_job(job, random, several_ends); break;
-    case 4: paper_job(job, random, several_ends); break;
+    case 4: known_job(job, random, several_ends); break;
     default: random_right_job(job, random, several_ends); break;
     }
     choose_starts(job, random);

@@ -16,8 +16,8 @@ void random_job(struct job *job, struct random *random);
 void one_end_job(struct job *job, struct random *random);
 
 /*
- * In the jobs of the next two families ends of an odd kind are boxes, if there are results enough to tell them by: a box is told
- * by a result of its own, and takes a step more than another end.
+ * In the jobs of the next two families an end of an odd kind is told from the others, if there are results enough and a second
+ * world: it has a result of its own, and takes a step more, which changes the world. So where W is 1 there is none.
  */
 
 /*
@@ -56,7 +56,7 @@ enum sized_job {
     JOB_ACCEPTED,       /* accepted, with as many pairs as a plan of this size can reach, and short walks */
     JOB_LONG_FAILURE,   /* its shortest failing line is as long as that of a plan of this size can be */
     JOB_WALK,           /* accepted, with nearly S·W steps at each lamp */
-    JOB_WORK,           /* accepted, with as many pairs as JOB_ACCEPTED and long walks at nearly half of the kinds */
+    JOB_WORK,           /* accepted, with long walks at nearly half of the kinds, or the only one, and many pairs by the others */
     JOB_AT_ONCE,        /* fails on the empty line */
     JOB_FIRST_LAMP,     /* fails at the first lamp of the first kind */
     JOB_CIRCLE,         /* fails there too, by circling through nearly all pairs */

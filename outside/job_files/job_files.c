@@ -195,7 +195,7 @@ void bench_line(struct job *job, enum bench_variant variant)
 
 enum { THREE_LOOK, THREE_NEXT, THREE_SEAL, THREE_SET_FUSE };
 enum { UNTOUCHED, SEALED, FUSE_SET };
-enum { CAP, JOINT_BOX, FUSE_BOX, LAMP }; /* the end kinds, and what a look tells */
+enum { LAMP = THREE_ENDS }; /* what a look tells, beside the end kinds */
 
 static struct cell three_ends_cell(const struct job *job, int action, uint8_t world, uint8_t column)
 {

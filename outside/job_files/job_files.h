@@ -96,6 +96,7 @@ void bench_line(struct job *job, enum bench_variant variant);
  * A plan that deals with three kinds of line's end: a plain cap, a joint box, which is to be sealed, and a fuse box, whose fuse
  * is to be set. It is samples/three_ends.job.
  */
+enum { CAP, JOINT_BOX, FUSE_BOX, THREE_ENDS }; /* its end kinds, and their number */
 void three_ends_job(struct job *job);
 
 /* The README's example: a plan that walks a line of one kind of lamp to its end. */

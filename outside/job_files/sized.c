@@ -31,7 +31,8 @@ static void random_tables(struct job *job, enum size size)
 static void make_tables(struct job *job, enum sized_job which, enum size size)
 {
     const uint8_t movers = job->states / job->results; /* enough for every other state to be the target of one that moves on */
-    const uint32_t none_turn = 0, all_turn = ~none_turn, upper_turn = all_turn << (job->kinds / 2 + 2);
+    const uint8_t first_upper = job->kinds < 3 ? job->kinds : job->kinds / 2 + 2; /* the highest kind turns in any case */
+    const uint32_t none_turn = 0, all_turn = ~none_turn, upper_turn = all_turn << first_upper;
     switch (which) {
     case JOB_LONG_FAILURE: counting_job(job, job->states); break;
     case JOB_CIRCLE:

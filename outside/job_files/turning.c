@@ -4,21 +4,24 @@
 #include "families.h"
 
 enum { TURN };                 /* the action of the states that are a digit; every other action moves on */
-enum { STAYS, WRAPS, PASSES }; /* its results 0, 1, and 2 on; R-1 is the result at the line's end, and R-2 that at a box */
+enum { STAYS, WRAPS, PASSES }; /* its results 0, 1, and 2 on; R-1 is the result at the line's end, and R-2 that at an odd end */
 
-static bool has_boxes(const struct job *job) { return job->last_end > 0 && job->results > PASSES + 1; }
+static bool turns_tell_odd_ends(const struct job *job)
+{
+    return job->last_end > 0 && job->worlds > 1 && job->results > PASSES + 1;
+}
 
-/* At a box the world becomes the highest, and with that it is an end like the others. */
+/* At an odd end the world becomes the highest, and with that it is like the others. */
 static struct cell turned_at_end(const struct job *job, uint8_t world, uint8_t end)
 {
     uint8_t last = job->results - 1, highest = job->worlds - 1;
-    bool box = has_boxes(job) && end % 2 == 1;
-    return box && world < highest ? (struct cell){highest, last - 1} : (struct cell){world, last};
+    bool told = turns_tell_odd_ends(job) && end % 2 == 1 && world < highest;
+    return told ? (struct cell){highest, last - 1} : (struct cell){world, last};
 }
 
 static struct cell turned(const struct job *job, uint32_t turning, uint8_t world, uint8_t kind)
 {
-    int passing = job->results - 1 - PASSES - has_boxes(job);
+    int passing = job->results - 1 - PASSES - turns_tell_odd_ends(job);
     if (passing > 0 && !(turning >> kind & 1))
         return (struct cell){world, (uint8_t)(PASSES + (world + kind) % passing)};
     if (world + 1 < job->worlds)
@@ -52,7 +55,7 @@ static void digit_row(struct job *job, uint8_t state, uint8_t digits, uint8_t mo
         job->target[state][result] = (uint8_t)(digits + (state + result) % movers);
     job->target[state][STAYS] = state;
     job->target[state][WRAPS] = state + 1; /* after the last digit comes the first state that moves on */
-    if (has_boxes(job))
+    if (turns_tell_odd_ends(job))
         job->target[state][job->results - 2] = state;
     job->target[state][job->results - 1] = job->states;
 }

@@ -65,6 +65,21 @@ void take_bench(enum bench_variant variant)
     write_job();
 }
 
+void take_three_ends(void)
+{
+    three_ends_job(&job);
+    write_job();
+}
+
+void take_final(uint8_t worlds, uint8_t kinds, uint8_t ends, const uint8_t *goal)
+{
+    job = (struct job){.actions = 1, .worlds = worlds, .kinds = kinds, .results = 1, .last_end = ends - 1};
+    memset(job.starts, 1, worlds);
+    for (unsigned world = 0; world < worlds; world++)
+        memcpy(job.goal[world], goal + world * columns_of(&job), columns_of(&job));
+    write_job();
+}
+
 void expect_run(const char *what, const uint8_t *line, size_t lamps, uint8_t end, uint32_t limit, uint64_t wanted)
 {
     expect(what, plain_run(file.bytes, file.size, 0, line, lamps, end, limit), wanted);

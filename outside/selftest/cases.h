@@ -14,6 +14,7 @@ void form_cases(void);
 void up_to_cases(void);
 void replay_cases(void);
 void end_kind_cases(void);
+void sample_cases(void);
 
 /* Prints how many of its jobs were accepted, and how many failed in which way on how long a line. */
 void random_cases(void);
@@ -51,6 +52,15 @@ void write_job(void);
 
 /* Bench line G or a variant becomes the job at hand. */
 void take_bench(enum bench_variant variant);
+
+/* The job of three end kinds becomes the job at hand. */
+void take_three_ends(void);
+
+/*
+ * A job whose first state is the final one becomes the job at hand. The goal is true where the bytes by world and column say so,
+ * and every world is a start.
+ */
+void take_final(uint8_t worlds, uint8_t kinds, uint8_t ends, const uint8_t *goal);
 
 /* The run from start 0. */
 void expect_run(const char *what, const uint8_t *line, size_t lamps, uint8_t end, uint32_t limit, uint64_t wanted);

@@ -1,6 +1,6 @@
 /*
- * Line ends of several kinds (02, (c)): a job of three, with each of its numbers at its edges, and jobs on which another order of
- * failing lines would name another one. Each check also stands against all lines.
+ * Line ends of several kinds (02, (c)): a job of three, with each of its numbers at its edges, jobs on which another order of
+ * failing lines would name another one, and jobs of as many columns as there may be. Each check also stands against all lines.
  */
 #include "brute.h"
 #include "cases.h"
@@ -15,19 +15,11 @@ static void expect_failed(const char *what, uint64_t wanted, const uint8_t *lamp
 
 /* ---- Three end kinds: actions 0 look, 1 next, 2 seal, 3 set the fuse ---- */
 
-enum { CAP, JOINT_BOX, FUSE_BOX, THREE };
-
-static void take_three(void)
-{
-    three_ends_job(&job);
-    write_job();
-}
-
 static void three_ends(void)
 {
     const uint16_t numbers[NESSFLURRY_HEAD_SIZE] = {4, 3, 2, 4, 4, 0, 2, 28, 4, 32, 120, 152, 3, 155, 15, 170, 20};
     uint16_t head[NESSFLURRY_HEAD_SIZE];
-    take_three();
+    take_three_ends();
     expect("size of three ends", file.size, 190);
     expect("the reader on three ends", plain_read(file.bytes, file.size, head), ending(NESSFLURRY_DONE, 0));
     expect("the reader's numbers of three ends", memcmp(head, numbers, sizeof head) == 0, true);
@@ -42,49 +34,81 @@ static void three_ends(void)
 /* Failures at one end kind, on the empty line; and one at a lamp, which comes with every end kind and is told with the lowest. */
 static void three_ends_failing(void)
 {
-    take_three();
+    take_three_ends();
     job.target[0][JOINT_BOX] = NONE;
     write_job();
     expect_failed("no branch for a joint box", failing(NESSFLURRY_NO_BRANCH, 0, 0, JOINT_BOX), line);
     job.target[0][JOINT_BOX] = 3;
     write_job();
     expect_failed("a fuse set in a joint box", failing(NESSFLURRY_NOT_LEGAL, 0, 0, JOINT_BOX), line);
-    take_three();
+    take_three_ends();
     job.target[0][FUSE_BOX] = 0;
     write_job();
     expect_failed("a fuse box looked at for ever", failing(NESSFLURRY_CIRCLES, 0, 0, FUSE_BOX), line);
     job.target[0][FUSE_BOX] = 4;
     write_job();
     expect_failed("a fuse not set", failing(NESSFLURRY_GOAL_FALSE, 0, 0, FUSE_BOX), line);
-    take_three();
-    job.cells[1][0][THREE - 1 + 2] = (struct cell){0, NONE};
+    take_three_ends();
+    job.cells[1][0][THREE_ENDS - 1 + 2] = (struct cell){0, NONE};
     write_job();
     expect_failed("kind 2 cannot be passed", failing(NESSFLURRY_NOT_LEGAL, 0, 1, CAP), line + 1);
     expect_run("kind 2 cannot be passed, a fuse box", line + 1, 1, FUSE_BOX, 9, ending(NESSFLURRY_NOT_LEGAL, 1));
 }
 
-static void three_ends_refused(void)
+/* Whether the run comes to the line's end or not. */
+static void no_such_end(void)
 {
-    take_three();
-    for (unsigned end = THREE; end <= 255; end++)
+    take_three_ends();
+    for (unsigned end = THREE_ENDS; end <= 255; end++)
         expect_run("an end kind not below E", line, 2, (uint8_t)end, 9, refused(15));
-    expect("walk, column E + C", plain_walk(file.bytes, file.size, 0, 0, THREE + 2), refused(15));
-    expect("walk, column E + C - 1", plain_walk(file.bytes, file.size, 0, 0, THREE - 1 + 2), ending(NESSFLURRY_ARRIVED, 2));
+    expect_run("an end kind not below E, and no step allowed", line, 2, THREE_ENDS, 0, refused(15));
+    job.cells[1][0][THREE_ENDS - 1 + 1] = (struct cell){0, NONE};
+    write_job();
+    expect_run("an end kind not below E, and kind 1 cannot be passed", line, 2, THREE_ENDS, 9, refused(15));
+}
+
+/* No lamp is of kind 0, whose column would be that of the highest end kind. */
+static void no_such_kind(void)
+{
+    const uint8_t kind_0[] = {1, 0}, kind_3[] = {3};
+    take_three_ends();
+    expect_run("kind 0 of two", kind_0 + 1, 1, CAP, 9, refused(15));
+    expect_run("kind 0 of two after kind 1", kind_0, 2, CAP, 9, refused(15));
+    expect_run("kind 3 of two", kind_3, 1, CAP, 9, refused(15));
+}
+
+static void walks_at_edges(void)
+{
+    take_three_ends();
+    expect("walk, column E + C", plain_walk(file.bytes, file.size, 0, 0, THREE_ENDS + 2), refused(15));
+    expect("walk, column E + C - 1", plain_walk(file.bytes, file.size, 0, 0, THREE_ENDS - 1 + 2), ending(NESSFLURRY_ARRIVED, 2));
     expect("walk, column E - 1", plain_walk(file.bytes, file.size, 0, 0, FUSE_BOX), ending(NESSFLURRY_GOAL, 2));
-    expect("kind 3 of two", plain_run(file.bytes, file.size, 0, (const uint8_t[]){THREE}, 1, 0, 9), refused(15));
-    for (unsigned world = 0; world < 3; world++)
-        for (unsigned end = 0; end < THREE; end++) {
-            take_three();
-            job.cells[1][world][end] = (struct cell){0, 0};
-            write_job();
+}
+
+/* Moving on is legal once at an end. */
+static void take_passed_end(uint8_t world, uint8_t end)
+{
+    take_three_ends();
+    job.cells[1][world][end] = (struct cell){0, 0};
+    write_job();
+}
+
+static void ends_passed(void)
+{
+    for (uint8_t world = 0; world < 3; world++)
+        for (uint8_t end = 0; end < THREE_ENDS; end++) {
+            take_passed_end(world, end);
             expect_refused_file("an end passed", 7);
         }
+    take_passed_end(0, FUSE_BOX);
+    file.bytes[151] = 4;
+    expect_refused_file("an end passed, and the last cell's result not below R", 6);
 }
 
 /* It is told the end by the result alone. */
 static void three_ends_cabinet(void)
 {
-    take_three();
+    take_three_ends();
     expect("begin before an end", plain_begin(file.bytes, file.size, 0), cabinet(0, 0, 0));
     expect("a fuse box", plain_report(file.bytes, file.size, 0, 0, FUSE_BOX), cabinet(0, 3, 0));
     expect("the action for it", plain_action(file.bytes, file.size, 3, 0), cabinet(0, 3, 0));
@@ -99,7 +123,7 @@ static void three_ends_damaged(void)
         {14, 119, 4}, {14, 118, 4}, {14, 72, 4}, {22, 14, 4}, {22, 9, 4}, {150, 1, 6}, {151, 4, 6}, {169, 2, 9},
     };
     for (size_t i = 0; i < sizeof one_defect / sizeof one_defect[0]; i++) {
-        take_three();
+        take_three_ends();
         file.bytes[one_defect[i][0]] = one_defect[i][1];
         expect_refused_file("three ends with a byte changed", one_defect[i][2]);
     }
@@ -108,7 +132,7 @@ static void three_ends_damaged(void)
 /* The last end kind, byte 6, and C, byte 2, with the lengths of three end kinds and two lamp kinds. */
 static void expect_refused_columns(uint8_t last_end, uint8_t kinds, unsigned refusal)
 {
-    take_three();
+    take_three_ends();
     file.bytes[6] = last_end;
     file.bytes[2] = kinds;
     expect_refused_file("other numbers of columns", refusal);
@@ -129,19 +153,11 @@ static void columns(void)
     expect_refused_columns(2, 14, 2);
     expect_refused_columns(2, 13, 4);
     expect_refused_columns(3, 1, 7); /* as many columns: kind 1 becomes an end, where next is legal */
+    expect_refused_columns(4, 0, 2); /* as many columns, all of them ends */
+    expect_refused_columns(15, 0, 2);
 }
 
 /* ---- The order of failing lines ---- */
-
-/* The first state is the final one, and the goal is true where the bytes by world and column say so. Every world is a start. */
-static void take_final(uint8_t worlds, uint8_t kinds, uint8_t ends, const uint8_t *goal)
-{
-    job = (struct job){.actions = 1, .worlds = worlds, .kinds = kinds, .results = 1, .last_end = ends - 1};
-    memset(job.starts, 1, worlds);
-    for (unsigned world = 0; world < worlds; world++)
-        memcpy(job.goal[world], goal + world * columns_of(&job), columns_of(&job));
-    write_job();
-}
 
 /* Where the end kind were compared before the lamps or the start, a line with end kind 0 would come first. */
 static void lamps_and_start_first(void)
@@ -188,7 +204,9 @@ static void kinds_first(void)
     expect_failed("kind 2 with both end kinds", failing(NESSFLURRY_GOAL_FALSE, 0, 1, 0), line + 1);
 }
 
-/* Every end kind alone, with as many lamp kinds as there may be. */
+/* ---- As many columns as there may be ---- */
+
+/* Every end kind alone. */
 static void each_end(void)
 {
     for (uint8_t ends = 1; ends <= MOST_ENDS; ends++)
@@ -214,16 +232,42 @@ static void highest_kind(void)
     }
 }
 
+/* One action, which moves on, and is legal in this column alone. */
+static void take_moving(uint8_t ends, uint8_t legal)
+{
+    job = (struct job){.actions = 1, .worlds = 1, .kinds = MOST_COLUMNS - ends, .results = 1, .last_end = ends - 1};
+    clear_tables(&job);
+    job.marks[0] = job.starts[0] = 1;
+    job.cells[0][0][legal] = (struct cell){0, 0};
+    write_job();
+}
+
+static void each_end_passed(void)
+{
+    for (uint8_t ends = 1; ends <= MOST_ENDS; ends++) {
+        for (uint8_t end = 0; end < ends; end++) {
+            take_moving(ends, end);
+            expect_refused_file("one end kind of many passed", 7);
+        }
+        take_moving(ends, ends);
+        expect("only kind 1 passed", plain_begin(file.bytes, file.size, 1), cabinet(0, 0, 1));
+    }
+}
+
 void end_kind_cases(void)
 {
     three_ends();
     three_ends_failing();
     three_ends_cabinet();
-    three_ends_refused();
+    no_such_end();
+    no_such_kind();
+    walks_at_edges();
+    ends_passed();
     three_ends_damaged();
     columns();
     lamps_and_start_first();
     kinds_first();
     each_end();
     highest_kind();
+    each_end_passed();
 }

@@ -52,22 +52,22 @@ static void expect_up_to(uint64_t failed)
 }
 
 /*
- * Counting ends in world 0, without a look at the end: there the goal is false at the highest of eight end kinds, a box, and only
- * the whole line comes to it like this.
+ * Counting ends in world 0, without a look at the end: there the goal is false at the highest of eight end kinds, an odd one, and
+ * only the whole line comes to it like this.
  */
-static void long_line_to_a_box(void)
+static void long_line_to_an_odd_end(void)
 {
-    enum { ENDS = 8, BOX = ENDS - 1, CAP = BOX - 1 };
+    enum { ENDS = 8, ODD = ENDS - 1, EVEN = ODD - 1 };
     make_counting(MOST_STATES, ENDS);
-    job.goal[0][BOX] = 0;
+    job.goal[0][ODD] = 0;
     write_job();
-    expect("counting that ends at a box", check(), failing(NESSFLURRY_GOAL_FALSE, 0, COUNTED, BOX));
+    expect("counting that ends at end kind 7", check(), failing(NESSFLURRY_GOAL_FALSE, 0, COUNTED, ODD));
     expect_counting_line();
-    expect_run("the counting line to a box", lent.line, COUNTED, BOX, UINT32_MAX, ending(NESSFLURRY_GOAL_FALSE, 2 * COUNTED));
-    expect_run("the counting line to a cap", lent.line, COUNTED, CAP, UINT32_MAX, ending(NESSFLURRY_GOAL, 2 * COUNTED));
-    expect_run("a lamp fewer to a box", lent.line, COUNTED - 1, BOX, UINT32_MAX, ending(NESSFLURRY_GOAL, 2 * COUNTED));
-    expect_run("a lamp fewer to a cap", lent.line, COUNTED - 1, CAP, UINT32_MAX, ending(NESSFLURRY_GOAL, 2 * COUNTED - 1));
-    expect_up_to(failing(NESSFLURRY_GOAL_FALSE, 0, COUNTED, BOX));
+    expect_run("counting to end kind 7", lent.line, COUNTED, ODD, UINT32_MAX, ending(NESSFLURRY_GOAL_FALSE, 2 * COUNTED));
+    expect_run("counting to end kind 6", lent.line, COUNTED, EVEN, UINT32_MAX, ending(NESSFLURRY_GOAL, 2 * COUNTED));
+    expect_run("a lamp fewer to end kind 7", lent.line, COUNTED - 1, ODD, UINT32_MAX, ending(NESSFLURRY_GOAL, 2 * COUNTED));
+    expect_run("a lamp fewer to end kind 6", lent.line, COUNTED - 1, EVEN, UINT32_MAX, ending(NESSFLURRY_GOAL, 2 * COUNTED - 1));
+    expect_up_to(failing(NESSFLURRY_GOAL_FALSE, 0, COUNTED, ODD));
 }
 
 /* From the last of these pairs one more such lamp decides. */
@@ -87,5 +87,5 @@ void long_line_cases(void)
     expect("counting that ends", check(), ending(NESSFLURRY_ACCEPTED, COUNTED + 1));
     take_counting(0);
     expect("counting that begins anew", check(), ending(NESSFLURRY_ACCEPTED, COUNTED));
-    long_line_to_a_box();
+    long_line_to_an_odd_end();
 }

@@ -90,6 +90,16 @@ static void print_what_was_met(void)
     print_row("runs: Goal, 1 to 4, Stopped", runs, 6);
 }
 
+/* Some jobs have as many end kinds as there can be, so that each can be the one with which a line fails. */
+static void expect_each_end(void)
+{
+    char what[40];
+    for (unsigned end = 0; end < MOST_ENDS; end++) {
+        snprintf(what, sizeof what, "some failure with end kind %u", end);
+        expect(what, failures[end] > 0, true);
+    }
+}
+
 void random_cases(void)
 {
     struct random random = {SEED};
@@ -101,4 +111,5 @@ void random_cases(void)
             random_run(&random);
     }
     print_what_was_met();
+    expect_each_end();
 }

@@ -170,8 +170,7 @@ static void told_afterwards(void)
 
 static void end_kinds(void)
 {
-    three_ends_job(&job);
-    write_job();
+    take_three_ends();
     expect_possible("a cap", LOG(0, 0));
     expect_possible("a joint box", LOG(0, 1, 2, 0));
     expect_possible("a fuse box", LOG(0, 2, 3, 0));

@@ -12,8 +12,9 @@ int main(void)
     up_to_cases();
     replay_cases();
     end_kind_cases();
-    printf("bench line G, refusals, long lines, forms of the checks, checks up to some lamps, logs, end kinds: %u answers "
-           "compared, %u differ\n",
+    sample_cases();
+    printf("bench line G, refusals, long lines, forms of the checks, checks up to some lamps, logs, end kinds, samples: %u "
+           "answers compared, %u differ\n",
            compared, differing);
     random_cases();
     log_cases();
