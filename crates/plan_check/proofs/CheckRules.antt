@@ -80,7 +80,7 @@ module _ (s : List ℕ) (lent : Lent) where
 -- ---- the answer
 
 -- What the search finds is right, since the verdict of its definition is.
-pub found-right :
+found-right :
     (s : List ℕ) {j : Job} {longest : ℕ} {f : Found} {line line′ : List ℕ} → Opened s j → Finds (tablesBy s j) longest f line line′ →
     OutcomeRight (tablesOf s) longest (outcomeOf f) line line′
 unfolding OutcomeRight Right
@@ -118,17 +118,19 @@ pub record Enough (s : List ℕ) (lent : Lent) (j : Job) : Type 0 where
   pub words-enough : (j .states * j .worlds + j .worlds + 63) / 64 ≤ length (lent .words)
 
 module _ {s : List ℕ} {lent : Lent} {j : Job} (enough : Enough s lent j) where
-  -- No refusal applies, so a right answer is what the contract asks for.
-  pub right-checked :
-      (longest : ℕ) (r : Outcome) (after : Lent) → OutcomeRight (tablesOf s) longest r (lent .line) (after .line) → CheckedLines s longest r lent after
+  none-applies : firstRefusal s lent ≡ none
+  none-applies =
+      check-by-rules s lent (enough .opened)
+      ∙ rw (le-ltb _ _ (enough .line-enough), le-ltb _ _ (enough .list-enough), le-ltb _ _ (enough .words-enough))
+
+  -- No refusal applies, so what the search finds is the answer.
+  pub found-checked :
+      {longest : ℕ} {f : Found} {r : Outcome} (after : Lent) → Finds (tablesBy s j) longest f (lent .line) (after .line) → r ≡ outcomeOf f →
+      CheckedLines s longest r lent after
   unfolding CheckedLines
-  right-checked longest r after right =
-      subst (λ (o : Option ℕ). CheckedBy outcome.Refused (OutcomeRight (tablesOf s) longest) o r lent after) (sym none-applies) right
-    where
-      none-applies : firstRefusal s lent ≡ none
-      none-applies =
-          check-by-rules s lent (enough .opened)
-          ∙ rw (le-ltb _ _ (enough .line-enough), le-ltb _ _ (enough .list-enough), le-ltb _ _ (enough .words-enough))
+  found-checked {longest} {f} {r} after finds is =
+      subst (λ (o : Option ℕ). CheckedBy outcome.Refused (OutcomeRight (tablesOf s) longest) o r lent after) (sym none-applies)
+      (rw is (found-right s (enough .opened) finds))
 
   -- There is room for the search.
   pub has-room : Room (tablesBy s j) (length (lent .line)) (length (lent .list)) (length (lent .words))

@@ -1,26 +1,20 @@
 // The check (01, "The check"): does the plan reach the goal on all lines, however long and however they end, from all marked starts?
-// `check_plan` is the operation, and `check_up_to` is the short check (02, (b)), which looks at lines of up to a number of lamps only. Neither asks anything of
-// its caller. Both make the same search. It remembers the fates of walks in a memory on the stack. The memory is small for a small job,
-// because clearing the largest one costs more than the whole check of such a job.
+// `check_plan` is the operation, and `check_up_to` is the short check (02, (b)), which looks at lines of up to a number of lamps only. Neither
+// asks anything of its caller. Both make the same search, with a memory that is small for a small job.
 ghost use mathlib.Core.Path.{_≡_};
-ghost use Prim.Native.Nat.{_≤_};
-ghost use lib.ListN.{length};
-ghost use Rattle.job_layout.specs.JobTables.{tablesBy, tablesOf};
-ghost use Rattle.job_file.specs.Reading.{Opened};
-ghost use Rattle.lamp_fates.specs.inner.Memory.{memorySize};
-ghost use Rattle.plan_search.specs.inner.Searching.{Room};
 ghost use Rattle.plan_check.specs.CheckAnswers.{Checked};
 ghost use Rattle.plan_check.specs.ShortAnswers.{CheckedUpTo};
-ghost use Rattle.plan_check.specs.inner.Outcomes.{outcomeOf, OutcomeRight, CheckedLines, fullAnswer, shortAnswer};
+ghost use Rattle.plan_check.specs.inner.Outcomes.{outcomeOf, CheckedLines, fullAnswer, shortAnswer};
 use job_file::Reading;
 use job_file::read_job;
 use job_file::refusal_number;
-use job_layout::Job;
 use job_layout::places::column_count;
 use lamp_line::FailureKind;
 use lamp_line::WorldState;
 use plan_search::Found;
-use plan_search::search;
+use sized_search::find_large;
+use sized_search::find_middle;
+use sized_search::find_small;
 
 // A failure: its kind, and the start, the number of lamps and the kind of end of its line. The lamps themselves are in the line buffer.
 pub struct Failure {
@@ -75,59 +69,6 @@ fn outcome_of(found: Found) -> Outcome
     }
 }
 
-// The search with a memory for the smallest jobs.
-fn find_small(
-    file: &[u8],
-    job: Job,
-    longest: usize,
-    line: &mut [u8],
-    list: &mut [u32],
-    words: &mut [u64],
-) -> Outcome
-    requires { ⌜ Opened (now file) job
-        × Room (tablesBy (now file) job) (length (now line)) (length (now list)) (length (now words))
-        × (memorySize (tablesBy (now file) job) ≤ 256) ⌝ }
-    ensures { λ r. ⌜ OutcomeRight (tablesOf (now (file .entry))) longest r (now (line .entry)) (now (line .exit)) ⌝ }
-{
-    let mut memory = [0u16; 256];
-    outcome_of(search(file, job, longest, &mut memory, line, list, words))
-}
-
-// The search with a memory for jobs of middle size.
-fn find_middle(
-    file: &[u8],
-    job: Job,
-    longest: usize,
-    line: &mut [u8],
-    list: &mut [u32],
-    words: &mut [u64],
-) -> Outcome
-    requires { ⌜ Opened (now file) job
-        × Room (tablesBy (now file) job) (length (now line)) (length (now list)) (length (now words))
-        × (memorySize (tablesBy (now file) job) ≤ 8192) ⌝ }
-    ensures { λ r. ⌜ OutcomeRight (tablesOf (now (file .entry))) longest r (now (line .entry)) (now (line .exit)) ⌝ }
-{
-    let mut memory = [0u16; 8192];
-    outcome_of(search(file, job, longest, &mut memory, line, list, words))
-}
-
-// The search with a memory for every job: there are at most 65 times 64 pairs at 16 columns.
-fn find_large(
-    file: &[u8],
-    job: Job,
-    longest: usize,
-    line: &mut [u8],
-    list: &mut [u32],
-    words: &mut [u64],
-) -> Outcome
-    requires { ⌜ Opened (now file) job
-        × Room (tablesBy (now file) job) (length (now line)) (length (now list)) (length (now words)) ⌝ }
-    ensures { λ r. ⌜ OutcomeRight (tablesOf (now (file .entry))) longest r (now (line .entry)) (now (line .exit)) ⌝ }
-{
-    let mut memory = [0u16; 66560];
-    outcome_of(search(file, job, longest, &mut memory, line, list, words))
-}
-
 // Checks the plan of any file on the lines of up to `longest` lamps, with a lent line buffer, working list and words of any size and content.
 fn check_lines(
     file: &[u8],
@@ -157,12 +98,12 @@ fn check_lines(
     }
     let size = pairs * column_count(job) as usize;
     if size <= 256 {
-        return find_small(file, job, longest, line, list, words);
+        return outcome_of(find_small(file, job, longest, line, list, words));
     }
     if size <= 8192 {
-        return find_middle(file, job, longest, line, list, words);
+        return outcome_of(find_middle(file, job, longest, line, list, words));
     }
-    find_large(file, job, longest, line, list, words)
+    outcome_of(find_large(file, job, longest, line, list, words))
 }
 
 // The answer of the full check.

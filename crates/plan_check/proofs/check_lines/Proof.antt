@@ -10,7 +10,7 @@ use Rattle.lamp_walk.proofs.WalkLoop.{few-steps}
 use Rattle.job_file.proofs.WellFormed.{sound}
 use Rattle.plan_check.specs.CheckAnswers.{Lent}
 use Rattle.plan_check.proofs.CheckRules.{file-refused-checked, buffer-refused, list-refused, words-refused}
-use Rattle.plan_check.proofs.CheckRules.{Enough, right-checked, has-room, fits-in, size-bound}
+use Rattle.plan_check.proofs.CheckRules.{Enough, found-checked, has-room, fits-in, size-bound}
 use Rattle.plan_check.proofs.check_lines.Statement.{statement}
 use Rattle.plan_check.proofs.check_lines.Tie as tie
 
@@ -133,6 +133,9 @@ find-small-requires c κs =
     let e = enough (n .before) in
     (e .opened, has-room e, fits-in e (n .column-count .ensures) (i .if4 .taken))
 
+outcome-of-requires : tie.Need-outcome-of-requires
+outcome-of-requires c κs = search needs
+
 same-length : tie.Need-same-length
 same-length c = search needs
 
@@ -144,9 +147,9 @@ same-length-3 c = search needs
 
 returns-5 : tie.Need-returns-5
 returns-5 c =
-    let f = c .before .before .before .before .before .before in
+    let f = c .before .before .before .before .before .before .before in
     let n = f .before .before .before .before .before in
-    right-checked (enough (n .before)) _ (f .find-small .result) _ (f .find-small .ensures)
+    found-checked (enough (n .before)) _ (f .find-small .ensures) (c .outcome-of .ensures)
 
 find-middle-requires : tie.Need-find-middle-requires
 find-middle-requires c κs =
@@ -154,6 +157,9 @@ find-middle-requires c κs =
     let n = i .before .before in
     let e = enough (n .before) in
     (e .opened, has-room e, fits-in e (n .column-count .ensures) (i .if5 .taken))
+
+outcome-of-requires-2 : tie.Need-outcome-of-requires-2
+outcome-of-requires-2 c κs = search needs
 
 same-length-4 : tie.Need-same-length-4
 same-length-4 c = search needs
@@ -166,15 +172,18 @@ same-length-6 c = search needs
 
 returns-6 : tie.Need-returns-6
 returns-6 c =
-    let f = c .before .before .before .before .before .before in
+    let f = c .before .before .before .before .before .before .before in
     let n = f .before .before .before .before .before .before in
-    right-checked (enough (n .before)) _ (f .find-middle .result) _ (f .find-middle .ensures)
+    found-checked (enough (n .before)) _ (f .find-middle .ensures) (c .outcome-of2 .ensures)
 
 find-large-requires : tie.Need-find-large-requires
 find-large-requires c κs =
     let n = c .before .before .before .before .before in
     let e = enough (n .before) in
     (e .opened, has-room e)
+
+outcome-of-requires-3 : tie.Need-outcome-of-requires-3
+outcome-of-requires-3 c κs = search needs
 
 same-length-7 : tie.Need-same-length-7
 same-length-7 c = search needs
@@ -187,9 +196,9 @@ same-length-9 c = search needs
 
 returns-7 : tie.Need-returns-7
 returns-7 c =
-    let f = c .before .before .before .before .before .before in
+    let f = c .before .before .before .before .before .before .before in
     let n = f .before .before .before .before .before .before in
-    right-checked (enough (n .before)) _ (f .find-large .result) _ (f .find-large .ensures)
+    found-checked (enough (n .before)) _ (f .find-large .ensures) (c .outcome-of3 .ensures)
 
 pub check-lines-spec : {M : Type 1} → statement M
 check-lines-spec =
@@ -214,16 +223,19 @@ check-lines-spec =
     cast-size
     mul-size
     find-small-requires
+    outcome-of-requires
     same-length
     same-length-2
     same-length-3
     returns-5
     find-middle-requires
+    outcome-of-requires-2
     same-length-4
     same-length-5
     same-length-6
     returns-6
     find-large-requires
+    outcome-of-requires-3
     same-length-7
     same-length-8
     same-length-9
