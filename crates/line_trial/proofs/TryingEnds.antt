@@ -1,7 +1,7 @@
 -- The line that is tried with one kind of end: the pair with which it goes on, and what that pair's fate means for the search.
 use mathlib.Core.Path.{_≡_, refl, sym, ap, _∙_}
 use mathlib.Core.Logic.{_≢_}
-use mathlib.Core.Bool.{Bool, true, false, _&&_}
+use mathlib.Core.Bool.{Bool, true, false, _&&_, and-eq-true-iff}
 use mathlib.Core.List.{List, [], _∷_}
 use Prim.Native.Nat.{ℕ, _+_, _*_, _≤_, _<_}
 use native.Mathlib.Decide.{decLt, ℕ-discrete}
@@ -43,6 +43,12 @@ use Rattle.line_trial.specs.declared.Tried.the-variants as tried-as
 use Rattle.working_list.specs.inner.Listing.{table, Listed}
 use Rattle.line_trial.specs.inner.Trials.{Ready, Going, at-lamp, at-end, Goes, TriedBelow, EndsSoFar, TriesEnd}
 use Rattle.job_file.proofs.WellFormed.{well-formed-by}
+
+-- ---- the job
+
+-- The tables of a file that is not refused are well formed.
+pub ready-tables : {s : List ℕ} {j : Job} {memory : List ℕ} → Ready s j memory → WellFormed (tablesBy s j)
+ready-tables {s} {j} ready = well-formed-by s j (ready .opened)
 
 -- ---- fates by the numbers of pairs
 
@@ -88,19 +94,11 @@ succeeds-then worlds (Arrives q w) h k = absurd (miss (0 ∷ 1 ∷ []) 2 tt k)
 
 -- ---- the loop that tries a line with one end
 
--- The tables of a file that is not refused are well formed.
-pub ready-tables : {s : List ℕ} {j : Job} {memory : List ℕ} → Ready s j memory → WellFormed (tablesBy s j)
-ready-tables {s} {j} ready = well-formed-by s j (ready .opened)
-
 -- The kind of end with which a failing line ends.
 abbrev failingEnd : Turn → ℕ
 failingEnd (answers (failed kind start line)) = line .end
 failingEnd (answers (accepted count)) = 0
 failingEnd (goes-on E) = 0
-
-and-true : (a b : Bool) → true ≡ (a && b) → (a ≡ true) × (b ≡ true)
-and-true true b e = (refl, sym e)
-and-true false b e = absurd (let z : _≡_ {A = ℕ} 0 1 = cc in omega arith)
 
 -- The line goes on with a pair at a column.
 pub record Trying
@@ -143,7 +141,7 @@ module _
     tries-met yes-met = record { so = go (trying .goes .going); remembers = trying .ready .remembers }
       where
         both : (eqb column 0 ≡ true) × (bitAt words x ≡ true)
-        both = and-true (eqb column 0) (bitAt words x) (sym yes-met ∙ is-met)
+        both = and-eq-true-iff (eqb column 0) (bitAt words x) .0 (sym is-met ∙ yes-met)
 
         go : Going t E place label end y column → tried t E place label ≡ goes-on E
         go (at-lamp h is after f) = let lowest = eqb-true column 0 (both .0) in absurd (omega arith)

@@ -11,7 +11,7 @@ use Rattle.lamp_line.proofs.Columns.{end-column-in, lamp-column-in}
 module _ (t : Tables) where
   column-below :
       (end : ℕ) (lamps : List ℕ) → end < endKinds (t .ends) → Kinds (t .kinds) lamps → column t (lineOf end lamps) < columns (t .ends) (t .kinds)
-  unfolding endKinds Kinds
+  unfolding Kinds
   column-below end [] e k = end-column-in (t .ends) (t .kinds) end e
   column-below end (kind ∷ lamps) e k = lamp-column-in (t .ends) (t .kinds) kind (k .1)
 

@@ -1,7 +1,6 @@
 -- A step of the lamp line is determined, since a cell has at most one outcome. It leads from pairs of the tables to pairs of the
 -- tables and, if its action moves on, leaves one lamp fewer. What is left of a line of the job is one, with the same end.
 use mathlib.Core.Path.{_≡_, refl, sym, ap, ap₂, _∙_}
-use mathlib.Core.Logic.{inl, inr}
 use mathlib.Core.Bool.{Bool, true, false, cond}
 use mathlib.Core.List.{List, [], _∷_}
 use Prim.Native.Nat.{ℕ, suc, _≤_, _<_}
@@ -16,16 +15,14 @@ use Rattle.lamp_line.specs.Tables.{outcome, Tables, Situation, movesOn, lineOf,
 use Rattle.lamp_line.specs.inner.WellFormed.{WellFormed}
 use Rattle.lamp_line.specs.Check.{situation}
 use Rattle.lamp_line.specs.Run.{pair}
-use Rattle.lamp_line.proofs.Members.{none-in-empty}
+use Rattle.lamp_line.proofs.Members.{none-in-empty, only-member}
 use Rattle.plans.proofs.Executions.{StepsDetermined}
 use Rattle.run_laws.specs.inner.Pairs.{InRange}
 
 -- An element of a list of at most one element is that element.
 only-one : {A : Type 0} (x : A) (l : List A) → length l ≤ 1 → x ∈ l → l ≡ x ∷ []
-unfolding _∈_
-only-one x [] h m = absurd m
-only-one x (y ∷ []) h (inl e) = rw e
-only-one x (y ∷ []) h (inr m) = absurd m
+only-one x [] h m = absurd (none-in-empty x [] refl m)
+only-one x (y ∷ []) h m = rw (only-member x y m)
 only-one x (y ∷ z ∷ l) h m = absurd (omega arith)
 
 same-label : (l m : Label) → actionOf l ≡ actionOf m → resultOf l ≡ resultOf m → l ≡ m
@@ -107,7 +104,7 @@ module _ (t : Tables) where
       kept true = refl
       kept false = refl
 
-  -- An execution along a line of the job leaves a line of the job.
+  -- The lamps that it leaves are of the job's kinds, if all lamps were.
   kinds-left :
       {ls : List Label} {q q′ : ProgramState} {s s′ : Situation} → T* (lampTheory t) (planOf t) ls q s q′ s′ →
       Kinds (t .kinds) (s .rest .lamps) → Kinds (t .kinds) (s′ .rest .lamps)
@@ -123,6 +120,7 @@ module _ (t : Tables) where
       left true end [] k = unfold Kinds in tt
       left true end (kind ∷ lamps) k = unfold Kinds in k .2
 
+  -- So an execution along a line of the job leaves a line of the job.
   pub rest-fits :
       {ls : List Label} {q q′ : ProgramState} {s s′ : Situation} → T* (lampTheory t) (planOf t) ls q s q′ s′ →
       Fits t (s .rest) → Fits t (s′ .rest)
