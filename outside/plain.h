@@ -1,6 +1,7 @@
 /*
  * The operations of documents 01 and 02, once more and plainly. Each function takes and answers what its namesake in
- * nessflurry.h does: the codes, the layout of the answers and what each field holds are described there.
+ * nessflurry.h does: the codes, the layout of the answers and what each field holds are described there. The sum is described
+ * in pair_sum.h.
  */
 #ifndef PLAIN_H
 #define PLAIN_H
@@ -23,5 +24,7 @@ typedef uint64_t check_up_to_call(const uint8_t *file, size_t file_size, uint16_
                                   uint32_t *list, size_t list_size, uint64_t *words, size_t words_size);
 check_call plain_check, plain_check_remembering;
 check_up_to_call plain_check_up_to, plain_check_up_to_remembering;
+
+size_t plain_sum(const uint64_t *words, size_t words_size, size_t bits);
 
 #endif

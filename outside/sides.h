@@ -1,11 +1,12 @@
 /*
- * The two sides that are held against each other: the product, through the functions that its header defines for C, and the
- * plain implementation.
+ * The two sides that are held against each other: the product, through the functions that its header defines for C and the sum
+ * that it has for the tests, and the plain implementation.
  */
 #ifndef OUTSIDE_SIDES_H
 #define OUTSIDE_SIDES_H
 
 #include "nessflurry.h"
+#include "pair_sum.h"
 #include "plain.h"
 
 enum { NESSFLURRY, PLAIN, SIDES };
@@ -22,13 +23,14 @@ struct side {
     uint64_t (*action)(const uint8_t *file, size_t file_size, uint8_t state, uint16_t lamps);
     uint64_t (*report)(const uint8_t *file, size_t file_size, uint8_t state, uint16_t lamps, uint8_t result);
     uint64_t (*replay)(const uint8_t *file, size_t file_size, const uint8_t *log, size_t log_size);
+    size_t (*sum)(const uint64_t *words, size_t words_size, size_t bits);
 };
 
 static const struct side sides[SIDES] = {
     {"nessflurry", nessflurry_read, nessflurry_walk, nessflurry_run, nessflurry_check, nessflurry_check_up_to, nessflurry_begin,
-     nessflurry_action, nessflurry_report, nessflurry_replay},
+     nessflurry_action, nessflurry_report, nessflurry_replay, pair_sum},
     {"plain", plain_read, plain_walk, plain_run, plain_check, plain_check_up_to, plain_begin, plain_action, plain_report,
-     plain_replay},
+     plain_replay, plain_sum},
 };
 
 #endif

@@ -55,6 +55,11 @@ uint64_t call_replay(int side, const struct subject *subject)
     return sides[side].replay(file->bytes, file->size, subject->log.bytes, subject->log.size);
 }
 
+uint64_t call_sum(int side, const struct subject *subject)
+{
+    return (uint64_t)sides[side].sum(subject->words, subject->words_size, subject->bits) << 32;
+}
+
 /* ---- Measuring ---- */
 
 /* Of this process alone, so that others on the machine count less. */
@@ -125,6 +130,8 @@ void print_answer(side_call *call, const struct subject *subject, uint64_t answe
         printf("  %s after %d lamps, end kind %d\n", endings[code], nessflurry_lamps_of(answer), nessflurry_end_of(answer));
     else if (call == call_replay)
         printf("  %zu entries, %s\n", entries_of(&subject->log), code == NESSFLURRY_POSSIBLE ? "possible" : "impossible");
+    else if (call == call_sum)
+        printf("  %" PRIu32 " ones\n", nessflurry_pairs_of(answer));
     else
         printf("  %zu bytes\n", subject->file.size);
     fflush(stdout);

@@ -93,6 +93,17 @@ void steps_subject(struct subject *subject)
     finish_subject(subject);
 }
 
+void words_subject(struct subject *subject, size_t words_size, size_t bits)
+{
+    static uint64_t words[SUBJECT_WORDS];
+    struct random random = {0};
+    snprintf(subject->name, NAME_BYTES, "%zu bits of %zu words", bits, words_size);
+    random_bytes(&random, words, words_size * sizeof *words);
+    subject->words = words;
+    subject->words_size = words_size;
+    subject->bits = bits;
+}
+
 const char *const growing_names[GROWING] = {"long walks", "many pairs"};
 
 void growing_subject(struct subject *subject, enum growing growing, uint8_t worlds, uint8_t states, uint8_t kinds)

@@ -1,5 +1,5 @@
 /*
- * What is measured: a job, with what the measured calls are handed.
+ * What is measured: a job, with what the measured calls are handed; or words to be summed, and no job.
  */
 #ifndef OUTSIDE_SUBJECTS_H
 #define OUTSIDE_SUBJECTS_H
@@ -17,6 +17,8 @@ struct subject {
     uint16_t longest;
     size_t lamps;
     struct log log;
+    const uint64_t *words;
+    size_t words_size, bits;
 };
 
 /* Each makes the subject anew, with an empty log and 0 lamps to check up to. */
@@ -29,6 +31,10 @@ void steps_subject(struct subject *subject);
 enum growing { LONG_WALKS, MANY_PAIRS, GROWING };
 extern const char *const growing_names[GROWING];
 void growing_subject(struct subject *subject, enum growing growing, uint8_t worlds, uint8_t states, uint8_t kinds);
+
+/* Words of random content, at most SUBJECT_WORDS, of which this many bits are summed. There is no job. */
+enum { SUBJECT_WORDS = 65536 };
+void words_subject(struct subject *subject, size_t words_size, size_t bits);
 
 /* Makes its log anew: an execution that goes on as far as it can, with this number of entries at most. */
 void take_log(struct subject *subject, size_t most);

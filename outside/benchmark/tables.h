@@ -15,4 +15,7 @@ void print_growth(void);
 /* Of the tables of checks before: where the product is furthest behind, and where it is furthest ahead of the walking loop. */
 void print_extremes(void);
 
+/* The sum of the pairs alone. */
+void print_sums(void);
+
 #endif

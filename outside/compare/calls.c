@@ -24,7 +24,7 @@ void open_rooms(void)
         open_room(&lent[i].head, NESSFLURRY_HEAD_SIZE * sizeof(uint16_t));
         open_room(&lent[i].line, NESSFLURRY_MAX_LAMPS + 1);
         open_room(&lent[i].list, (NESSFLURRY_LIST_SIZE + ROOM_BEYOND) * sizeof(uint32_t));
-        open_room(&lent[i].words, (NESSFLURRY_WORDS_SIZE + ROOM_BEYOND) * sizeof(uint64_t));
+        open_room(&lent[i].words, MOST_WORDS * sizeof(uint64_t));
         open_room(&lent[i].log, NESSFLURRY_MAX_LOG_SIZE + 2);
     }
 }
@@ -144,7 +144,7 @@ uint64_t compare_replay(const uint8_t *log, size_t log_size)
 static struct {
     uint8_t line[NESSFLURRY_LINE_SIZE + ROOM_BEYOND];
     uint32_t list[NESSFLURRY_LIST_SIZE + ROOM_BEYOND];
-    uint64_t words[NESSFLURRY_WORDS_SIZE + ROOM_BEYOND];
+    uint64_t words[MOST_WORDS];
 } before;
 
 /* A check: whose it is, up to how many lamps, with what it is called, and its answer. */
@@ -218,12 +218,22 @@ static void judge_buffers(int i, struct sizes sizes, uint64_t answer)
     demand(memcmp(lent[i].words.at, before.words, sizes.words * sizeof *before.words) == 0, "the words as they were, if refused");
 }
 
-static uint64_t compare_checks(bool alone, uint32_t longest, struct sizes sizes, uint8_t *failing, struct random *random)
+/* What the buffers have in them before a check. */
+typedef void filler(struct random *random, void *to, size_t content_size);
+
+static void ones(struct random *random, void *to, size_t content_size)
+{
+    (void)random;
+    memset(to, 0xFF, content_size);
+}
+
+static uint64_t compare_checks(filler *fill, bool alone, uint32_t longest, struct sizes sizes, uint8_t *failing,
+                               struct random *random)
 {
     uint64_t answers[SIDES];
-    random_bytes(random, before.line, sizes.line);
-    random_bytes(random, before.list, sizes.list * sizeof *before.list);
-    random_bytes(random, before.words, sizes.words * sizeof *before.words);
+    fill(random, before.line, sizes.line);
+    fill(random, before.list, sizes.list * sizeof *before.list);
+    fill(random, before.words, sizes.words * sizeof *before.words);
     place_call(longest == NO_BOUND ? CHECK : CHECK_UP_TO, sizes.line, sizes.list, sizes.words);
     place.arguments[3] = longest;
     for (int i = 0; i < SIDES; i++)
@@ -239,10 +249,29 @@ static uint64_t compare_checks(bool alone, uint32_t longest, struct sizes sizes,
 
 uint64_t compare_check(uint32_t longest, struct sizes sizes, uint8_t *failing, struct random *random)
 {
-    return compare_checks(false, longest, sizes, failing, random);
+    return compare_checks(random_bytes, false, longest, sizes, failing, random);
+}
+
+uint64_t compare_check_over_ones(uint32_t longest, struct sizes sizes, uint8_t *failing, struct random *random)
+{
+    return compare_checks(ones, false, longest, sizes, failing, random);
 }
 
 uint64_t compare_check_alone(uint32_t longest, struct sizes sizes, uint8_t *failing, struct random *random)
 {
-    return compare_checks(true, longest, sizes, failing, random);
+    return compare_checks(random_bytes, true, longest, sizes, failing, random);
+}
+
+size_t compare_sum(const uint64_t *words, size_t words_size, size_t bits)
+{
+    size_t sums[SIDES], bytes_lent = words_size * sizeof *words;
+    place_call(SUM, words_size, bits, 0);
+    place.words = words;
+    for (int i = 0; i < SIDES; i++) {
+        sums[i] = sides[i].sum(lend(&lent[i].words, words, bytes_lent, at_end), words_size, bits);
+        demand(memcmp(lent[i].words.at, words, bytes_lent) == 0 && guard_holds(&lent[i].words), "the words as they were");
+    }
+    count_sum(sums[NESSFLURRY], bits);
+    demand_equal(sums[NESSFLURRY], sums[PLAIN]);
+    return sums[NESSFLURRY];
 }

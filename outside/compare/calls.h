@@ -30,11 +30,18 @@ enum { NO_BOUND = NESSFLURRY_MAX_LAMPS + 1, ROOM_BEYOND = 100 };
 typedef uint64_t check_comparison(uint32_t longest, struct sizes sizes, uint8_t *failing, struct random *random);
 check_comparison compare_check;
 
+/* The same, with every bit of the buffers 1 before. */
+check_comparison compare_check_over_ones;
+
 /*
- * The same, with the product's check alone on a small stack (small_stack.h); and the most bytes of it that such a check has
- * taken. On the plain side it is the form that remembers, since the other takes long on the largest jobs.
+ * The same as the first, with the product's check alone on a small stack (small_stack.h); and the most bytes of it that such a
+ * check has taken. On the plain side it is the form that remembers, since the other takes long on the largest jobs.
  */
 check_comparison compare_check_alone;
 size_t most_stack_taken(void);
+
+/* The sum of at most MOST_WORDS words and any number of bits. It is not handed the file. */
+enum { MOST_WORDS = NESSFLURRY_WORDS_SIZE + ROOM_BEYOND };
+size_t compare_sum(const uint64_t *words, size_t words_size, size_t bits);
 
 #endif

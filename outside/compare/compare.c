@@ -1,8 +1,10 @@
 /*
- * The outside test. Job files, sound and damaged, are made from their numbers; every operation is called on each of them on
- * both sides and compared, and what the demands say of several calls together is tried. All of it is done on a stack of the
- * size that nessflurry.h says a check needs; and the checks of the largest jobs are made first, each with that stack for itself.
- * At last files of one end kind are answered, and have to have the answers that they had before there were several.
+ * The outside test. Job files, sound and damaged, are made from their numbers. Jobs of every number of program states and world
+ * states are checked over several contents of the buffers, and words of any content are summed. On all other files every
+ * operation is called on both sides and compared, and what the demands say of several calls together is tried. All of it is
+ * done on a stack of the size that nessflurry.h says a check needs; and the checks of the largest jobs are made first, each
+ * with that stack for itself. At last files of one end kind are answered, and have to have the answers that they had before
+ * there were several.
  *
  *     compare           the standard run
  *     compare long      some seven times as many files
@@ -43,6 +45,18 @@ static void try_sound(struct trial *trial)
         try_longest_log(trial);
 }
 
+/* Pairs and their bits, on a crowded job, which is accepted, or on a counting one, which fails at the last lamp of its line. */
+static void try_pairs(struct trial *trial)
+{
+    uint64_t answer = try_contents(trial);
+    if (place.number < FIRST_COUNTING)
+        demand(nessflurry_code_of(answer) == NESSFLURRY_ACCEPTED && nessflurry_pairs_of(answer) == crowd_of(&trial->job),
+               "accepted, with every pair but those of the states that move on");
+    else
+        demand(nessflurry_code_of(answer) == NESSFLURRY_NO_BRANCH, "the failure to which the counter leads");
+    try_sums(trial);
+}
+
 static struct trial *take_trial(uint32_t number)
 {
     static struct trial trial;
@@ -56,7 +70,9 @@ static struct trial *take_trial(uint32_t number)
 static void try_number(uint32_t number)
 {
     struct trial *trial = take_trial(number);
-    if (trial->sound)
+    if (number >= FIRST_CROWDED && number < FIRST_LARGE)
+        try_pairs(trial);
+    else if (trial->sound)
         try_sound(trial);
     else
         try_file(trial);

@@ -8,6 +8,9 @@
 
 enum { REFUSALS = 22, CODES = 10 };
 
+/* What takes the place of a code for a sum: how many of the bits are ones. */
+enum { NO_ONES, SOME_ONES, ALL_ONES };
+
 /* The numbers from one to another, as bits. */
 #define NUMBERS(from, to) ((2u << (to)) - (1u << (from)))
 
@@ -43,6 +46,7 @@ static const struct {
                 {"log bytes"},
                 {[NESSFLURRY_POSSIBLE] = "possible", [NESSFLURRY_IMPOSSIBLE] = "impossible"},
                 NUMBERS(1, 11) | NUMBERS(20, 21)},
+    [SUM] = {"sum", {"words", "bits"}, {[NO_ONES] = "none", [SOME_ONES] = "some", [ALL_ONES] = "all"}, 0},
 };
 
 struct place place;
@@ -55,24 +59,40 @@ static uint64_t compared, differing;
 static uint32_t most_pairs, longest_failing_line, most_possible_bytes, furthest_place;
 static uint64_t failures[MOST_ENDS]; /* of the full check, by end kind */
 
+/* Accepted checks in which the bits of all pairs end with a word, as many pairs are reached as fill words, or all there are. */
+enum word_end { PAIRS_END_WITH_WORD, REACHED_FILL_WORDS, ALL_REACHED, WORD_ENDS };
+static const char *const word_end_names[WORD_ENDS] = {"pairs ending with a word", "64 reached or a multiple", "all reached"};
+static uint64_t word_ends[WORD_ENDS];
+
 static const char *const lendable_names[LENDABLE] = {"file", "line", "line buffer", "list", "words", "log"};
 static uint64_t nulls[LENDABLE];
 
 void count_null(enum lendable what) { nulls[what]++; }
 
-/* The job of the first difference, in a form that the product's program and example read. */
-static void keep_job(void)
+static void keep(const char *what, const void *content, size_t content_size)
 {
     const char *folder = getenv("TMPDIR");
     char name[4096];
-    snprintf(name, sizeof name, "%s/nessflurry_difference.job", folder ? folder : "/tmp");
+    snprintf(name, sizeof name, "%s/nessflurry_difference.%s", folder ? folder : "/tmp", what);
     FILE *kept = fopen(name, "wb");
-    if (kept == NULL || fwrite(place.file->bytes, 1, place.file->size, kept) != place.file->size)
-        printf("  its job could not be written to %s\n", name);
+    if (kept == NULL || fwrite(content, 1, content_size, kept) != content_size)
+        printf("  its %s could not be written to %s\n", what, name);
     else
-        printf("  its job of %zu bytes is in %s\n", place.file->size, name);
+        printf("  its %s, %zu bytes: %s\n", what, content_size, name);
     if (kept != NULL)
         fclose(kept);
+}
+
+/*
+ * What the call of the first difference was handed: of a sum its words, as they lie in memory; of the others the job, in a form
+ * that the product's program and example read.
+ */
+static void keep_handed(void)
+{
+    if (place.operation == SUM)
+        keep("words", place.words, place.arguments[0] * sizeof *place.words);
+    else
+        keep("job", place.file->bytes, place.file->size);
 }
 
 static void tell_place(void)
@@ -90,7 +110,7 @@ void demand(bool holds, const char *demanded)
         return;
     tell_place();
     printf("  demanded, and not so: %s\n", demanded);
-    keep_job();
+    keep_handed();
     fflush(stdout);
 }
 
@@ -111,6 +131,16 @@ static void note_most(uint32_t *most, uint32_t count)
         *most = count;
 }
 
+/* The file is not refused, so these bytes of it are W and S. */
+static void note_accepted(uint32_t reached)
+{
+    uint32_t pairs = place.file->bytes[1] * (place.file->bytes[4] + 1u);
+    note_most(&most_pairs, reached);
+    word_ends[PAIRS_END_WITH_WORD] += pairs % 64 == 0;
+    word_ends[REACHED_FILL_WORDS] += reached % 64 == 0;
+    word_ends[ALL_REACHED] += reached == pairs;
+}
+
 static void note_failure(uint64_t answer)
 {
     uint8_t end = nessflurry_end_of(answer);
@@ -124,7 +154,7 @@ static void note_extremes(enum operation operation, uint64_t answer)
 {
     uint8_t code = nessflurry_code_of(answer);
     if (operation == CHECK && code == NESSFLURRY_ACCEPTED)
-        note_most(&most_pairs, nessflurry_pairs_of(answer));
+        note_accepted(nessflurry_pairs_of(answer));
     else if (operation == CHECK)
         note_failure(answer);
     else if (operation == REPLAY && code == NESSFLURRY_POSSIBLE)
@@ -160,13 +190,24 @@ void count_answer(enum operation operation, uint64_t answer)
     note_extremes(operation, answer);
 }
 
+void count_sum(size_t sum, size_t bits)
+{
+    compared++;
+    counts[SUM].calls++;
+    counts[SUM].answered[sum == 0 ? NO_ONES : sum < bits ? SOME_ONES : ALL_ONES]++;
+}
+
 static void print_operation(enum operation operation)
 {
-    printf("%-11s%9" PRIu64 " calls:", known[operation].name, counts[operation].calls);
+    const char *mark = ":";
+    printf("%-11s%9" PRIu64 " calls", known[operation].name, counts[operation].calls);
     for (int code = 0; code < CODES; code++)
-        if (known[operation].codes[code] != NULL)
-            printf(" %s %" PRIu64 ",", known[operation].codes[code], counts[operation].answered[code]);
-    printf(" refused");
+        if (known[operation].codes[code] != NULL) {
+            printf("%s %s %" PRIu64, mark, known[operation].codes[code], counts[operation].answered[code]);
+            mark = ",";
+        }
+    if (known[operation].refusals != 0)
+        printf(", refused");
     for (int refusal = 1; refusal < REFUSALS; refusal++)
         if (known[operation].refusals >> refusal & 1)
             printf(" %d:%" PRIu64, refusal, counts[operation].refused[refusal]);
@@ -184,6 +225,9 @@ void print_tally(void)
            longest_failing_line);
     for (int end = 0; end < MOST_ENDS; end++)
         printf(" %" PRIu64, failures[end]);
+    printf("\naccepted with");
+    for (enum word_end what = PAIRS_END_WITH_WORD; what < WORD_ENDS; what++)
+        printf("%s %s %" PRIu64, what == PAIRS_END_WITH_WORD ? "" : ",", word_end_names[what], word_ends[what]);
     printf("\n");
     printf("longest possible log %" PRIu32 " bytes, furthest place of an impossible one %" PRIu32 "\n", most_possible_bytes,
            furthest_place);
@@ -224,10 +268,22 @@ static bool end_kinds_seen(void)
     return all;
 }
 
+static bool word_ends_seen(void)
+{
+    bool all = true;
+    for (enum word_end what = PAIRS_END_WITH_WORD; what < WORD_ENDS; what++)
+        if (word_ends[what] == 0) {
+            printf("never seen: check accepting with %s\n", word_end_names[what]);
+            all = false;
+        }
+    return all;
+}
+
 bool all_seen(void)
 {
     bool all = longest_log_seen();
     all = end_kinds_seen() && all;
+    all = word_ends_seen() && all;
     for (enum operation operation = READ; operation < OPERATIONS; operation++)
         all = seen(operation) && all;
     for (enum lendable what = JOB_FILE; what < LENDABLE; what++)

@@ -6,13 +6,14 @@
 
 #include "job_files/job_files.h"
 
-enum operation { READ, WALK, RUN, CHECK, CHECK_UP_TO, BEGIN, ACTION, REPORT, REPLAY, OPERATIONS };
+enum operation { READ, WALK, RUN, CHECK, CHECK_UP_TO, BEGIN, ACTION, REPORT, REPLAY, SUM, OPERATIONS };
 
 /* Where the test is: told with the first difference, so that it can be seen again. */
 enum { MOST_ARGUMENTS = 4 };
 struct place {
     uint32_t number; /* of the job */
     const struct file *file;
+    const uint64_t *words; /* of a sum, which is not handed the file */
     enum operation operation;
     uint64_t arguments[MOST_ARGUMENTS];
 };
@@ -20,6 +21,9 @@ extern struct place place;
 
 /* Counts one compared call by what it answered, which has to be an answer that the operation has. */
 void count_answer(enum operation operation, uint64_t answer);
+
+/* Counts one compared sum of this many bits. It is a number, and no answer with a code. */
+void count_sum(size_t sum, size_t bits);
 
 /* Counts something that is lent as NULL, because it is empty. */
 enum lendable { JOB_FILE, LINE, LINE_BUFFER, WORKING_LIST, WORKING_WORDS, LOG, LENDABLE };
@@ -35,8 +39,9 @@ void count_difference(void);
 void print_tally(void);
 
 /*
- * Whether every answer and every refusal of every operation, a failure with each end kind, each thing as NULL and a possible
- * log of the greatest length have been seen; names what has not.
+ * Whether every answer and every refusal of every operation, a failure with each end kind, accepted checks whose pairs, or
+ * those reached, fill words, one that reaches all pairs, each thing as NULL and a possible log of the greatest length have been
+ * seen; names what has not.
  */
 bool all_seen(void);
 

@@ -37,11 +37,35 @@ static void make_random(struct trial *trial)
         scramble_file(trial);
 }
 
+/* S and W by a place in the list of all. Two actions are enough, and a crowded job has at least as many kinds as results. */
+static void set_states_and_worlds(struct job *job, uint32_t place_in_list)
+{
+    const uint8_t states = (uint8_t)(place_in_list / MOST_WORLDS), worlds = (uint8_t)(1 + place_in_list % MOST_WORLDS);
+    memset(job->gap, 0, sizeof job->gap);
+    set_numbers(job, (struct job_numbers){2, worlds, MOST_RESULTS, MOST_RESULTS, states, .last_end = 0});
+}
+
+static void make_crowded(struct job *job, uint32_t which)
+{
+    set_states_and_worlds(job, which);
+    crowded_job(job);
+}
+
+static void make_counting(struct job *job, uint32_t which)
+{
+    set_states_and_worlds(job, 2 * MOST_WORLDS + which);
+    counting_job(job, NONE);
+}
+
 static void make_numbered_job(struct job *job, uint32_t number)
 {
     uint32_t large = number - FIRST_LARGE;
     if (number >= FIRST_LARGE)
         sized_job(job, large % SIZED_JOBS, FULL + large / SIZED_JOBS);
+    else if (number >= FIRST_COUNTING)
+        make_counting(job, number - FIRST_COUNTING);
+    else if (number >= FIRST_CROWDED)
+        make_crowded(job, number - FIRST_CROWDED);
     else if (number >= FIRST_ENDS && number < FIRST_SIZE)
         three_ends_job(job);
     else

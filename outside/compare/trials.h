@@ -21,7 +21,9 @@ enum {
     FIRST_ENDS = BENCH_BYTES * 256,                  /* before it: the first of the two with each byte at each value */
     FIRST_SIZE = FIRST_ENDS + ENDS_BYTES * 256,      /* before it: the second one like this */
     FIRST_BENCH = FIRST_SIZE + BENCH_BYTES + 32 + 3, /* before it: the first at sizes up to 159 and at the largest three */
-    FIRST_LARGE = FIRST_BENCH + BENCH_VARIANTS,
+    FIRST_CROWDED = FIRST_BENCH + BENCH_VARIANTS,
+    FIRST_COUNTING = FIRST_CROWDED + (MOST_STATES + 1) * MOST_WORLDS, /* before it: a crowded job of each S and W */
+    FIRST_LARGE = FIRST_COUNTING + (MOST_STATES - 1) * MOST_WORLDS,   /* before it: a counting job of each W, and S from 2 on */
     FIRST_RANDOM = FIRST_LARGE + (SIZES - FULL) * SIZED_JOBS
 };
 void make_trial(struct trial *trial, uint32_t number);
@@ -40,6 +42,12 @@ bool try_checks(struct trial *trial);
 
 /* The checks, each of the product's with the small stack for itself (small_stack.h). */
 void try_checks_alone(struct trial *trial);
+
+/* The full check over buffers of several contents and sizes, which have to come to the same; answers what they come to. */
+uint64_t try_contents(struct trial *trial);
+
+/* Sums of words of any content: of as many bits as the job has pairs, of one fewer and one more, and of any number. */
+void try_sums(struct trial *trial);
 
 /* A cabinet that is led along a line. */
 void lead_cabinet(struct trial *trial, bool accepted);

@@ -35,6 +35,16 @@ void counting_job(struct job *job, uint8_t last);
 void turning_job(struct job *job, uint8_t movers, uint32_t turning);
 
 /*
+ * An accepted job that reaches as many pairs as a plan can: all but those of the states that move on, which are as few as will
+ * do. So it reaches every pair of the final state, and where S is 0 every pair there is. Its numbers are set before: A and R
+ * are 2 or more, and C is R or more.
+ */
+void crowded_job(struct job *job);
+
+/* The number of these pairs. */
+uint32_t crowd_of(const struct job *job);
+
+/*
  * A job whose logs tell little of worlds and columns, so that a replay has to keep nearly all of them at every entry. Its plan
  * never ends: it circles in every column or, if it moves on, comes to the end of the line, where no action is legal. Its
  * numbers are set before: R is 2 or more, S 1 or more.
@@ -53,7 +63,7 @@ void largest_numbers(struct job *job);
 /* Jobs by what a check or a replay of them costs, in several sizes; from FULL on they are the largest numbers. */
 enum size { SMALL, MIDDLE, FULL, FULL_8_ENDS, FULL_15_ENDS, SIZES }; /* of one end kind before FULL_8_ENDS */
 enum sized_job {
-    JOB_ACCEPTED,       /* accepted, with as many pairs as a plan of this size can reach, and short walks */
+    JOB_ACCEPTED,       /* accepted, with many pairs, of FULL as many as a plan can reach, and short walks */
     JOB_LONG_FAILURE,   /* its shortest failing line is as long as that of a plan of this size can be */
     JOB_WALK,           /* accepted, with nearly S·W steps at each lamp */
     JOB_WORK,           /* accepted, with long walks at nearly half of the kinds, or the only one, and many pairs by the others */

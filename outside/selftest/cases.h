@@ -15,6 +15,7 @@ void up_to_cases(void);
 void replay_cases(void);
 void end_kind_cases(void);
 void sample_cases(void);
+void sum_cases(void);
 
 /* Prints how many of its jobs were accepted, and how many failed in which way on how long a line. */
 void random_cases(void);

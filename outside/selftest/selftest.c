@@ -13,8 +13,9 @@ int main(void)
     replay_cases();
     end_kind_cases();
     sample_cases();
-    printf("bench line G, refusals, long lines, forms of the checks, checks up to some lamps, logs, end kinds, samples: %u "
-           "answers compared, %u differ\n",
+    sum_cases();
+    printf("bench line G, refusals, long lines, forms of the checks, checks up to some lamps, logs, end kinds, samples, sums: "
+           "%u answers compared, %u differ\n",
            compared, differing);
     random_cases();
     log_cases();

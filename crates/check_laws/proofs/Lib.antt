@@ -1,9 +1,9 @@
-pub mod Counting
 pub mod Ends
 pub mod Examples
 pub mod FailingLines
 pub mod FateLaws
 pub mod Layers
+pub mod ListPlaces
 pub mod MetPairs
 pub mod OneVerdict
 pub mod PassedLamps

@@ -12,9 +12,9 @@ use Rattle.lamp_line.specs.inner.WellFormed.{WellFormed}
 use Rattle.lamp_line.specs.Endings.{Ends, Leads}
 use Rattle.plans.specs.Execution.{Correct}
 use Rattle.lamp_line.specs.Check.{situation, Fails, rank, Counterexample, Reached, Verdict, accepted, failed, Right}
+use Rattle.lamp_line.proofs.Counting.{number-once}
 use Rattle.search_laws.proofs.Lex.{≼-antisym}
 use Rattle.check_laws.proofs.RunLeads.{leads-run}
-use Rattle.check_laws.proofs.Counting.{number-once}
 
 -- Lists that are equal with one number added at the end are equal, and so are the numbers.
 snoc-same : {m n : ℕ} (l l′ : List ℕ) → l ++ (m ∷ []) ≡ l′ ++ (n ∷ []) → (l ≡ l′) × (m ≡ n)

@@ -27,7 +27,7 @@ use Rattle.check_laws.proofs.TableGraph.{graph, PairNumber, start-in-ra
 use Rattle.check_laws.proofs.RunLeads.{goal-or-fails}
 use Rattle.check_laws.proofs.FailingLines.{fails-in-graph, graph-fails}
 use Rattle.check_laws.proofs.ReachedPairs.{reached-in-graph, graph-reached}
-use Rattle.check_laws.proofs.Counting.{at-place-in, in-at-place, distinct-by-places}
+use Rattle.check_laws.proofs.ListPlaces.{at-place-in, in-at-place, distinct-by-places}
 
 module _ (t : Tables) (wf : WellFormed t) where
   -- The least failing line of the graph is the counterexample.

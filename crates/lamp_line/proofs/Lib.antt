@@ -1,5 +1,6 @@
 pub mod Answering
 pub mod Columns
+pub mod Counting
 pub mod Examples
 pub mod Members
 pub mod Products

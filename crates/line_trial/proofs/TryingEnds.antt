@@ -25,7 +25,7 @@ use Rattle.run_laws.specs.inner.Pairs.{InRange, pairNumber, pairs}
 use Rattle.run_laws.proofs.Pairs.{pair-number-in}
 use Rattle.run_laws.proofs.Walks.{arrived-in-range}
 use Rattle.fate_laws.specs.inner.Fates.{uncounted}
-use Rattle.pair_bits.specs.inner.Bits.{bitAt}
+use Rattle.pair_bits.specs.Sum.{bitAt}
 use Rattle.job_layout.specs.declared.Job.{Job}
 use Rattle.job_layout.specs.JobTables.{tablesBy}
 use Rattle.lamp_fates.specs.declared.Fate.{Fate}

@@ -7,7 +7,7 @@ ghost use lib.Dec.{eqb};
 ghost use lib.ListN.{length};
 ghost use Rattle.job_layout.specs.JobTables.{tablesBy};
 ghost use Rattle.job_file.specs.Reading.{Opened};
-ghost use Rattle.pair_bits.specs.inner.Bits.{bitAt};
+ghost use Rattle.pair_bits.specs.Sum.{bitAt};
 ghost use Rattle.working_list.specs.inner.Listing.{table, Listed};
 ghost use Rattle.line_trial.specs.inner.Trials.{Ready, HasLabel, Begins, TriedBelow, TriesEnd, TriesLine};
 use job_layout::Job;

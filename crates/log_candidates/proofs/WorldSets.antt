@@ -7,7 +7,8 @@ use native.Mathlib.Decide.{decLt, ℕ-discrete}
 use native.Mathlib.Omega.{arith}
 use Rattle.lamp_line.specs.declared.WorldState.{WorldState}
 use Rattle.lamp_line.specs.Tables.{worldState}
-use Rattle.word_bits.specs.inner.WordBits.{hasBit, OnlyAdded, AddedIf}
+use Rattle.word_bits.specs.Bits.{hasBit}
+use Rattle.word_bits.specs.inner.WordBits.{OnlyAdded, AddedIf}
 use Rattle.word_bits.proofs.WordBits.{none-in-zero}
 use Rattle.log_candidates.specs.inner.WorldSets.{Has, Adds, Gathered}
 

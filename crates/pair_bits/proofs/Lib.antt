@@ -1,2 +1,3 @@
 pub mod SetBits
-pub mod Counts
+pub mod Sums
+pub mod WordSums

@@ -9,18 +9,19 @@ use lib.ListN.{length, getD, set, length-set}
 use lib.Seq.{getD-set-same, getD-set-other}
 use Rattle.word_bits.specs.inner.WordBits.{OnlyAdded}
 use Rattle.word_bits.proofs.WordBits.{none-in-zero}
-use Rattle.pair_bits.specs.inner.Bits.{bitOf, bitAt, Cleared, OnlySet}
+use Rattle.pair_bits.specs.Sum.{bitAt}
+use Rattle.pair_bits.specs.inner.Bits.{Cleared, OnlySet}
 
 module _ (ws : List ℕ) (i : ℕ) {word : ℕ} (room : i < length ws * 64) (with : OnlyAdded (getD ws (i / 64) 0) word (i % 64)) where
   other-bit : (k : ℕ) → k ≢ i → Dec (k / 64 ≡ i / 64) → bitAt (set ws (i / 64) word) k ≡ bitAt ws k
-  unfolding bitOf
+  unfolding bitAt
   other-bit k n (yes e) =
       rw (e, getD-set-same ws (i / 64) word 0 (omega arith)) (with .others (k % 64) (λ f. n (omega arith)))
   other-bit k n (no d) = rw (getD-set-other ws (i / 64) (k / 64) word 0 d)
 
   -- The word of bit i is written with that bit set: bit i is set, and no other changes.
   pub only-set : OnlySet ws (set ws (i / 64) word) i
-  unfolding bitOf
+  unfolding bitAt
   only-set =
       record {
         now-set = rw (getD-set-same ws (i / 64) word 0 (omega arith)) (with .added);
@@ -44,6 +45,6 @@ module _ {ws : List ℕ} {n : ℕ} (zeros : Zeros ws n) where
       go i h (no d) = rw (getD-set-other ws n i 0 0 d) (zeros .zero-at i (omega arith))
 
   -- Words that are 0 have no bit set.
-  pub zeros-cleared : (m : ℕ) → (m + 63) / 64 ≤ n → Cleared ws m
-  unfolding Cleared bitOf
+  pub zeros-cleared : (m : ℕ) → m / 64 + (m % 64 + 63) / 64 ≤ n → Cleared ws m
+  unfolding Cleared bitAt
   zeros-cleared m h i l = rw (zeros .zero-at (i / 64) (omega arith)) (none-in-zero (i % 64))

@@ -15,8 +15,9 @@ use Rattle.run_laws.specs.inner.Pairs.{InRange, pairNumber, pairs}
 use Rattle.run_laws.proofs.Pairs.{pairs-few, pair-number-in}
 use Rattle.job_layout.specs.declared.Job.{Job}
 use Rattle.job_layout.specs.JobTables.{tablesBy}
-use Rattle.pair_bits.specs.inner.Bits.{bitAt, OnlySet}
-use Rattle.pair_bits.proofs.Counts.{count-one}
+use Rattle.pair_bits.specs.Sum.{bitAt}
+use Rattle.pair_bits.specs.inner.Bits.{OnlySet}
+use Rattle.pair_bits.proofs.Sums.{sum-set}
 use Rattle.search_laws.specs.inner.Entries.{grown}
 use Rattle.check_laws.specs.inner.Search.{goes-on, met}
 use Rattle.check_laws.proofs.MetPairs.{met-new, met-other}
@@ -140,8 +141,7 @@ module _
     listed-placed =
         record {
           bits = bits-match;
-          counted = count-one words words′ y (pairs t) y-bound (new .comes .unmarked) only
-              ∙ ap (λ (m : ℕ). m + 1) (new .listed .counted);
+          counted = sum-set (new .listed .counted) y-bound (new .comes .unmarked) only;
           ranges = all-words (λ i r. InRange t (placedPair r)) (new .listed .ranges) (new .comes .range);
           chained = all-words (λ i r. r .place ≤ i) (new .listed .chained) (new .here .within);
           list-room = omega (arith, new .listed .list-room, length-set list n (packed placed));

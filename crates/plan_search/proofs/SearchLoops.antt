@@ -10,9 +10,11 @@ use lib.Seq.{length-take-le, getD-take}
 use Rattle.lamp_line.specs.declared.FailureKind.{FailureKind}
 use Rattle.lamp_line.specs.Tables.{Tables}
 use Rattle.lamp_line.specs.Check.{accepted}
+use Rattle.lamp_line.proofs.Counting.{number-once}
 use Rattle.job_layout.specs.declared.Job.{Job}
 use Rattle.job_layout.specs.JobTables.{tablesBy}
-use Rattle.pair_bits.specs.inner.Bits.{countTo, Cleared}
+use Rattle.pair_bits.specs.Sum.{OneAmong, SumIs}
+use Rattle.pair_bits.specs.inner.Bits.{Cleared}
 use Rattle.lamp_fates.specs.inner.Memory.{Memory}
 use Rattle.run_laws.specs.inner.Pairs.{pairs}
 use Rattle.run_laws.proofs.Pairs.{pairs-few}
@@ -199,13 +201,13 @@ module _
             verdict-is = rest-is;
           }
 
-      module _ {count : ℕ} (e : count ≡ countTo words (pairs t)) where
+      module _ {count : ℕ} (sum : SumIs words (pairs t) count) where
         -- There is no next layer: the pairs in the list are all that are reached.
         pub through : n ≡ layer → NoneMet t longest count
         through last-layer =
             let is : verdictOf t ≡ accepted count =
             rest-is ∙ ap conclusion (places-done t E place (omega (arith, table-length (at .listed))))
-            ∙ ap accepted (table-length (at .listed) ∙ sym (e ∙ at .listed .counted)) in
+            ∙ ap accepted (table-length (at .listed) ∙ number-once (OneAmong words (pairs t)) n count (at .listed .counted) sum) in
             record { none = rw is tt; all = λ far. is }
 
         -- The lines of the next layer have as many lamps as a number that is above the bound: none of up to the bound is left. As there is a

@@ -20,8 +20,8 @@ use lamp_line::WorldState;
 use line_trial::Tried;
 use line_trial::try_line;
 use pair_bits::clear_bits;
-use pair_bits::count_bits;
 use pair_bits::set_bit;
+use pair_bits::sum_bits;
 use working_list::Placed;
 use working_list::line::write_line;
 use working_list::list::pack;
@@ -144,7 +144,8 @@ fn search_places(
         }
         if place == layer {
             if count == layer || longest < lamps + 1 {
-                break 'search SearchEnd::NoneFails(count_bits(words, pairs));
+                let reached = sum_bits(words, pairs) as u32;
+                break 'search SearchEnd::NoneFails(reached);
             }
             layer = count;
             lamps += 1;

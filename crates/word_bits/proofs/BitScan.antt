@@ -4,7 +4,8 @@ use mathlib.Core.Bool.{true, false, false≢true}
 use Prim.Native.Nat.{ℕ, _+_, _≤_, _<_}
 use native.Mathlib.Decide.{decLt, ℕ-discrete}
 use native.Mathlib.Omega.{arith}
-use Rattle.word_bits.specs.inner.WordBits.{hasBit, Lowest, OnlyRemoved, WithoutLowest}
+use Rattle.word_bits.specs.Bits.{hasBit}
+use Rattle.word_bits.specs.inner.WordBits.{Lowest, OnlyRemoved, WithoutLowest}
 use Rattle.word_bits.proofs.WordBits.{none-in-zero}
 
 pub record Scanning (word rest w : ℕ) : Type 0 where

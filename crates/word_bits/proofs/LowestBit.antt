@@ -9,7 +9,8 @@ use native.Mathlib.Omega.{arith}
 use lib.Arith.{digits-div, digits-mod}
 use lib.Bits.{bitAnd, and-step, and-self, and-le-r}
 use lib.Count.{under, trailingZeros}
-use Rattle.word_bits.specs.inner.WordBits.{bitIn, hasBit, OnlyRemoved, Lowest, WithoutLowest}
+use Rattle.word_bits.specs.Bits.{bitIn, hasBit}
+use Rattle.word_bits.specs.inner.WordBits.{OnlyRemoved, Lowest, WithoutLowest}
 
 -- ---- bits and halves
 

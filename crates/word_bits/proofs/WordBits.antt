@@ -10,7 +10,8 @@ use lib.Arith.{digits-mod}
 use lib.Bits.{bitOr, or-step, or-shr}
 use lib.Pow.{pow-pos, pow-add, pow-lt, shl-shr}
 use mir.Val.{boolByte}
-use Rattle.word_bits.specs.inner.WordBits.{bitIn, hasBit, OnlyAdded, AddedIf}
+use Rattle.word_bits.specs.Bits.{bitIn, hasBit}
+use Rattle.word_bits.specs.inner.WordBits.{OnlyAdded, AddedIf}
 
 -- ---- an or
 

@@ -3,7 +3,8 @@
 // These functions are for the crates above and not for users: each asks for a number below 64.
 ghost use mathlib.Core.Path.{_≡_};
 ghost use Prim.Native.Nat.{_<_};
-ghost use Rattle.word_bits.specs.inner.WordBits.{hasBit, OnlyAdded, AddedIf, Lowest, WithoutLowest};
+ghost use Rattle.word_bits.specs.Bits.{hasBit};
+ghost use Rattle.word_bits.specs.inner.WordBits.{OnlyAdded, AddedIf, Lowest, WithoutLowest};
 
 // Bit i is set.
 pub fn has_bit(word: u64, i: usize) -> bool

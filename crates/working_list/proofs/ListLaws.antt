@@ -6,8 +6,9 @@ use Prim.Native.Nat.{ℕ, _*_, _≤_, _<_}
 use native.Mathlib.Omega.{arith}
 use lib.ListN.{length}
 use Rattle.lamp_line.specs.Tables.{Tables}
-use Rattle.pair_bits.specs.inner.Bits.{bitAt, Cleared}
-use Rattle.pair_bits.proofs.Counts.{count-le, count-cleared, count-lt}
+use Rattle.pair_bits.specs.Sum.{bitAt}
+use Rattle.pair_bits.specs.inner.Bits.{Cleared}
+use Rattle.pair_bits.proofs.Sums.{sum-le, sum-lt, sum-cleared}
 use Rattle.run_laws.specs.inner.Pairs.{pairs}
 use Rattle.search_laws.specs.inner.Entries.{Entry}
 use Rattle.check_laws.specs.inner.Search.{met}
@@ -23,7 +24,7 @@ unfolding Cleared
 listed-empty {t} {list} {words} cleared h k =
     record {
       bits = λ y l. cleared y l ∙ sym (ap (λ (E : List Entry). met E y) (entries-none (t .worlds)) ∙ met-none y);
-      counted = count-cleared words (pairs t) cleared;
+      counted = sum-cleared cleared;
       ranges = λ i l. absurd (omega arith);
       chained = λ i l. absurd (omega arith);
       list-room = h;
@@ -33,7 +34,7 @@ listed-empty {t} {list} {words} cleared h k =
 module _ {t : Tables} {list words : List ℕ} {n : ℕ} (listed : Listed t list words n) where
   -- The list holds no more words than there are pairs.
   pub count-fits : n ≤ pairs t
-  count-fits = omega (arith, listed .counted, count-le words (pairs t))
+  count-fits = sum-le (listed .counted)
 
   -- It has as many entries as words.
   pub table-length : length (table t list n) ≡ n
@@ -41,4 +42,4 @@ module _ {t : Tables} {list words : List ℕ} {n : ℕ} (listed : Listed t list 
 
   -- While the bit of a pair is not set, the list holds fewer words than there are pairs.
   pub room-left : (y : ℕ) → y < pairs t → bitAt words y ≡ false → n < pairs t
-  room-left y h e = omega (arith, listed .counted, count-lt words y (pairs t) h e)
+  room-left = sum-lt (listed .counted)

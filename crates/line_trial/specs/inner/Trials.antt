@@ -11,7 +11,7 @@ use Rattle.job_layout.specs.declared.Job.{Job}
 use Rattle.job_layout.specs.JobTables.{tablesBy}
 use Rattle.job_file.specs.Reading.{Opened}
 use Rattle.run_laws.specs.inner.Pairs.{InRange, pairNumber}
-use Rattle.pair_bits.specs.inner.Bits.{bitAt}
+use Rattle.pair_bits.specs.Sum.{bitAt}
 use Rattle.lamp_fates.specs.inner.Memory.{Memory}
 use Rattle.search_laws.specs.inner.Entries.{Entry, grown}
 use Rattle.check_laws.specs.inner.Fates.{fate, atEnds}

@@ -10,7 +10,7 @@ use Rattle.plans.specs.Execution.{Label, did, actionOf, resultOf}
 use Rattle.lamp_line.specs.declared.WorldState.{WorldState}
 use Rattle.lamp_line.specs.Lists.{_∈_}
 use Rattle.lamp_line.specs.Tables.{outcome, Tables, worldState, columns}
-use Rattle.word_bits.specs.inner.WordBits.{hasBit}
+use Rattle.word_bits.specs.Bits.{hasBit}
 use Rattle.job_layout.specs.declared.Job.{Job}
 use Rattle.log_laws.specs.inner.Candidates.{Candidates}
 use Rattle.log_candidates.specs.declared.LogEntry.{LogEntry}

@@ -16,6 +16,9 @@ abbrev μ-loop : tie.MeasureT-loop
 add-count : tie.Need-add-count Inv-loop μ-loop
 add-count c = omega arith
 
+add-count-2 : tie.Need-add-count-2 Inv-loop μ-loop
+add-count-2 c = omega arith
+
 loop-holds : tie.Need-loop-holds Inv-loop μ-loop
 loop-holds c = (omega arith, refl, record { zero-at = λ i l. absurd (omega arith) })
 
@@ -49,6 +52,7 @@ clear-bits-spec =
     Inv-loop
     μ-loop
     add-count
+    add-count-2
     loop-holds
     mul-words
     slice-write-words

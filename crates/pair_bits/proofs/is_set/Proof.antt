@@ -1,6 +1,6 @@
 -- Bit i is a bit of the word with the number i / 64.
 use borrow.Author.Needs.{needs}
-use Rattle.pair_bits.specs.inner.Bits.{bitOf}
+use Rattle.pair_bits.specs.Sum.{bitAt}
 use Rattle.pair_bits.proofs.is_set.Statement.{statement}
 use Rattle.pair_bits.proofs.is_set.Tie as tie
 
@@ -14,7 +14,7 @@ has-bit-requires : tie.Need-has-bit-requires
 has-bit-requires c κs = search needs
 
 returns : tie.Need-returns
-unfolding bitOf
+unfolding bitAt
 returns c = c .has-bit .ensures
 
 pub is-set-spec : {M : Type 1} → statement M

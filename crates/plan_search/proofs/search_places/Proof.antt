@@ -8,6 +8,7 @@ use native.Mathlib.Omega.{arith}
 use Prim.Native.Nat.{_+_, _-_}
 use lib.ListN.{length}
 use Rattle.run_laws.proofs.Pairs.{pairs-few}
+use Rattle.pair_bits.proofs.Sums.{sum-le}
 use Rattle.line_trial.proofs.TryingEnds.{ready-tables}
 use Rattle.plan_search.proofs.SearchLoops.{AtPlace, AtLabel, turned-as, search-begins, place-begun, count-few, layer-held}
 use Rattle.plan_search.proofs.SearchLoops.{label-here, label-few, label-held, label-failed, place-in-layer, place-in-next, through, stopped}
@@ -73,7 +74,7 @@ mul-pairs : tie.Need-mul-pairs Inv-loop μ-loop Inv-search μ-search
 mul-pairs c = omega (arith, pairs-few (ready-tables (start (c .before) .pre .0)))
 
 clear-bits-requires : tie.Need-clear-bits-requires Inv-loop μ-loop Inv-search μ-search
-clear-bits-requires c κs = let b = start (c .before .before) in (b .pre .2, pairs-few (ready-tables (b .pre .0)))
+clear-bits-requires c κs = start (c .before .before) .pre .2
 
 search-holds : tie.Need-search-holds Inv-loop μ-loop Inv-search μ-search
 search-holds c =
@@ -130,10 +131,13 @@ add-if3 c =
     let at = c .before .before .before .loop .inv .0 in
     omega (arith, at .layered .few, at .layered .within, layer-held at, count-few at)
 
-count-bits-requires : tie.Need-count-bits-requires Inv-loop μ-loop Inv-search μ-search
-count-bits-requires c κs =
-    let at = at-end (c .before) .before .loop .inv .0 in
-    (at .listed .bits-room, pairs-few (ready-tables (at .ready)))
+sum-bits-requires : tie.Need-sum-bits-requires Inv-loop μ-loop Inv-search μ-search
+sum-bits-requires c κs = search needs
+
+cast-reached : tie.Need-cast-reached Inv-loop μ-loop Inv-search μ-search
+cast-reached c =
+    let at = at-end (c .before .before) .before .loop .inv .0 in
+    omega (arith, sum-le (c .sum-bits .ensures), pairs-few (ready-tables (at .ready)))
 
 add-lamps : tie.Need-add-lamps Inv-loop μ-loop Inv-search μ-search
 add-lamps c =
@@ -211,9 +215,9 @@ returns-2 c =
     let end = j .before .if1 .taken in
     record {
       so =
-          ⊎-elim (λ none. through at (omega (arith, e .loop-test .left)) end (c .count-bits .ensures) (none .taken))
+          ⊎-elim (λ none. through at (omega (arith, e .loop-test .left)) end (c .sum-bits .ensures) (none .taken))
           (λ (more, long).
-          stopped at (omega (arith, e .loop-test .left)) end (c .count-bits .ensures) (more .left) (ltb-true _ _ (long .taken)) (omega arith))
+          stopped at (omega (arith, e .loop-test .left)) end (c .sum-bits .ensures) (more .left) (ltb-true _ _ (long .taken)) (omega arith))
           (j .if2 .came);
     }
 
@@ -241,7 +245,8 @@ search-places-spec =
     loop-less
     loop-again
     add-if3
-    count-bits-requires
+    sum-bits-requires
+    cast-reached
     add-lamps
     add-place
     search-less

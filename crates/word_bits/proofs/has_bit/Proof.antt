@@ -1,7 +1,7 @@
 -- The shift and the remainder read bit i.
 use mathlib.Core.Path.{refl}
 use borrow.Author.Needs.{needs}
-use Rattle.word_bits.specs.inner.WordBits.{bitIn}
+use Rattle.word_bits.specs.Bits.{bitIn}
 use Rattle.word_bits.proofs.has_bit.Statement.{statement}
 use Rattle.word_bits.proofs.has_bit.Tie as tie
 

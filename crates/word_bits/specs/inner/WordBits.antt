@@ -1,17 +1,9 @@
--- For the functions of this crate: the bits of a word, the lowest first.
+-- For the functions of this crate: the lowest bit of a word, and what setting or removing a bit does to a word.
 use mathlib.Core.Path.{_≡_}
 use mathlib.Core.Logic.{_≢_}
 use mathlib.Core.Bool.{Bool, true, false}
-use Prim.Native.Nat.{ℕ, _/_, _%_, _^_, _<_}
-use lib.Dec.{eqb}
-
--- Bit i of the word.
-unfoldable pub bitIn : ℕ → ℕ → ℕ
-bitIn word i = word / 2 ^ i % 2
-
--- Bit i is set.
-abbrev pub hasBit : ℕ → ℕ → Bool
-hasBit word i = eqb (bitIn word i) 1
+use Prim.Native.Nat.{ℕ, _<_}
+use Rattle.word_bits.specs.Bits.{hasBit}
 
 -- After a change bit i is set, and every other bit is as it was.
 pub record OnlyAdded (before after i : ℕ) : Type 0 where

@@ -5,7 +5,7 @@ use Prim.Native.Nat.{ℕ, _*_, _≤_, _<_}
 use lib.ListN.{length, getD, take}
 use Rattle.lamp_line.specs.Tables.{Tables}
 use Rattle.run_laws.specs.inner.Pairs.{InRange, pairs}
-use Rattle.pair_bits.specs.inner.Bits.{bitAt, countTo}
+use Rattle.pair_bits.specs.Sum.{bitAt, SumIs}
 use Rattle.search_laws.specs.inner.Entries.{Entry}
 use Rattle.check_laws.specs.inner.Search.{met}
 use Rattle.working_list.specs.inner.Placing.{unpacked, placedPair, entries}
@@ -19,7 +19,7 @@ pub record Listed (t : Tables) (list words : List ℕ) (n : ℕ) : Type 0 where
   -- A pair's bit is set exactly when the pair is in the list.
   pub bits : (y : ℕ) → y < pairs t → bitAt words y ≡ met (table t list n) y
   -- As many bits are set as the list has words.
-  pub counted : countTo words (pairs t) ≡ n
+  pub counted : SumIs words (pairs t) n
   -- The pairs are those of the tables, each found at place 0 or at the place of a pair before it.
   pub ranges : (i : ℕ) → i < n → InRange t (placedPair (unpacked (getD list i 0)))
   pub chained : (i : ℕ) → i < n → unpacked (getD list i 0) .place ≤ i
