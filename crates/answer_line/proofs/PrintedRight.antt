@@ -8,13 +8,13 @@ use borrow.Author.Tests.{le-ltb}
 use Rattle.lamp_line.proofs.Products.{product-le}
 use lib.ListN.{length, drop, replicate, length-append, length-replicate}
 use lib.Seq.{sets-eq, take-at, drop-at}
-use Rattle.lamp_line.specs.Refusals.{Rule, _when_, refusal, orRefused, answerBy}
+use Rattle.lamp_line.specs.Refusals.{Refusal, _when_, refusal, orRefused, answerBy}
 use Rattle.lamp_line.specs.Check.{accepted, failed}
-use Rattle.lamp_line.proofs.Answering.{refusal-is, by-rules-before}
+use Rattle.lamp_line.proofs.Answering.{refusal-is, by-refusals-before}
 use Rattle.job_layout.specs.Layout.{head}
 use Rattle.job_layout.specs.JobTables.{tablesOf}
-use Rattle.job_file.specs.Reading.{fileRules}
-use Rattle.plan_check.specs.CheckAnswers.{bufferShort, listShort, checkRules}
+use Rattle.job_file.specs.Reading.{fileRefusals}
+use Rattle.plan_check.specs.CheckAnswers.{bufferShort, listShort, checkRefusals}
 use Rattle.job_file.proofs.Opening.{opened-unrefused}
 use Rattle.job_file.proofs.WellFormed.{sound}
 use Rattle.plan_check.specs.declared.CheckAnswer.{CheckAnswer}
@@ -26,10 +26,10 @@ use Rattle.answer_line.specs.inner.Writing.{Wrote}
 
 -- ---- the buffers are large enough
 
-own-rules : (s : List ℕ) → refusal (fileRules s) ≡ none →
+own-refusals : (s : List ℕ) → refusal (fileRefusals s) ≡ none →
     refusal ((12 when bufferShort (tablesOf s) 4097) ∷ (13 when listShort (tablesOf s) 4160 65) ∷ []) ≡ none
 unfolding refusal
-own-rules s e =
+own-refusals s e =
     let wf = sound s (head s) (opened-unrefused s [] e) .well-formed in
     let few = product-le 64 64 (tablesOf s .states) (tablesOf s .worlds) (wf .states-range) (wf .worlds-range .1) in
     rw (
@@ -37,18 +37,18 @@ own-rules s e =
       le-ltb 4160 ((tablesOf s .states + 1) * tablesOf s .worlds) (omega (arith, few, wf .worlds-range .1)),
     ) refl
 
-large-enough : (s : List ℕ) → refusal (checkRules s 4097 4160 65) ≡ refusal (fileRules s)
+large-enough : (s : List ℕ) → refusal (checkRefusals s 4097 4160 65) ≡ refusal (fileRefusals s)
 unfolding answerBy
 large-enough s =
-    refusal-is (checkRules s 4097 4160 65)
-    ∙ by-rules-before some (fileRules s) own none
-    ∙ by (refusal (fileRules s)) refl
+    refusal-is (checkRefusals s 4097 4160 65)
+    ∙ by-refusals-before some (fileRefusals s) own none
+    ∙ by (refusal (fileRefusals s)) refl
   where
-    own : List Rule
+    own : List Refusal
     own = (12 when bufferShort (tablesOf s) 4097) ∷ (13 when listShort (tablesOf s) 4160 65) ∷ []
 
-    by : (o : Option ℕ) → refusal (fileRules s) ≡ o → orRefused some o (answerBy some own none) ≡ o
-    by none e = sym (refusal-is own) ∙ own-rules s e
+    by : (o : Option ℕ) → refusal (fileRefusals s) ≡ o → orRefused some o (answerBy some own none) ≡ o
+    by none e = sym (refusal-is own) ∙ own-refusals s e
     by (some number) e = refl
 
 -- The lent buffers have these sizes.
@@ -73,16 +73,16 @@ zeros-large =
 -- ---- each answer
 
 module _ (s : List ℕ) (before after : Lent) (large : Large before) where
-  by-file : (r : CheckAnswer) → Checked s r before after → CheckedBy answer.Refused (AnsweredRight (tablesOf s)) (refusal (fileRules s)) r before after
+  by-file : (r : CheckAnswer) → Checked s r before after → CheckedBy answer.Refused (AnsweredRight (tablesOf s)) (refusal (fileRefusals s)) r before after
   by-file r checked =
-      let by-sizes : refusal (checkRules s (length (before .line)) (length (before .list)) (length (before .words))) ≡ refusal (fileRules s) =
+      let by-sizes : refusal (checkRefusals s (length (before .line)) (length (before .list)) (length (before .words))) ≡ refusal (fileRefusals s) =
       rw (large .line-size, large .list-size, large .words-size) (large-enough s) in
       subst (λ (o : Option ℕ). CheckedBy answer.Refused (AnsweredRight (tablesOf s)) o r before after) by-sizes checked
 
   -- After Accepted, its line is to be printed.
   pub accepted-printed : (count : ℕ) → Checked s (answer.Accepted count) before after → Printed s (verdictLine (accepted count))
   unfolding AnsweredRight
-  accepted-printed count checked = by (refusal (fileRules s)) (by-file _ checked)
+  accepted-printed count checked = by (refusal (fileRefusals s)) (by-file _ checked)
     where
       by : (o : Option ℕ) → CheckedBy answer.Refused (AnsweredRight (tablesOf s)) o (answer.Accepted count) before after →
           PrintedBy o (tablesOf s) (verdictLine (accepted count))
@@ -93,7 +93,7 @@ module _ (s : List ℕ) (before after : Lent) (large : Large before) where
   pub failed-printed : (f : Failure) → Checked s (answer.Failed f) before after →
       Printed s (verdictLine (failed (f .kind) (f .start) (failedLine f (after .line)))) × (f .lamps ≤ length (after .line))
   unfolding AnsweredRight
-  failed-printed f checked = by (refusal (fileRules s)) (by-file _ checked)
+  failed-printed f checked = by (refusal (fileRefusals s)) (by-file _ checked)
     where
       by : (o : Option ℕ) → CheckedBy answer.Refused (AnsweredRight (tablesOf s)) o (answer.Failed f) before after →
           PrintedBy o (tablesOf s) (verdictLine (failed (f .kind) (f .start) (failedLine f (after .line))))
@@ -104,7 +104,7 @@ module _ (s : List ℕ) (before after : Lent) (large : Large before) where
   -- After Refused, the number is the file's refusal, and its line is to be printed.
   pub refused-printed : (number : ℕ) → Checked s (answer.Refused number) before after → Printed s (refusedLine number)
   unfolding AnsweredRight
-  refused-printed number checked = by (refusal (fileRules s)) (by-file _ checked)
+  refused-printed number checked = by (refusal (fileRefusals s)) (by-file _ checked)
     where
       by : (o : Option ℕ) → CheckedBy answer.Refused (AnsweredRight (tablesOf s)) o (answer.Refused number) before after →
           PrintedBy o (tablesOf s) (refusedLine number)

@@ -13,7 +13,7 @@ use Rattle.lamp_line.specs.Endings.{kindNumber}
 use Rattle.lamp_line.specs.Refusals.{refusal}
 use Rattle.lamp_line.specs.Check.{Verdict, accepted, failed, Right}
 use Rattle.job_layout.specs.JobTables.{tablesOf}
-use Rattle.job_file.specs.Reading.{fileRules}
+use Rattle.job_file.specs.Reading.{fileRefusals}
 
 -- The decimal digits of a number that has at most `places` of them, with no leading zero.
 unfoldable pub decimalBy : ℕ → ℕ → List ℕ
@@ -62,7 +62,7 @@ PrintedBy none t text = (v : Verdict) × Right t v × (text ≡ verdictLine v)
 
 -- The line for the file with bytes s is this text. It is the only such text, since only one answer is right.
 abbrev pub Printed : List ℕ → List ℕ → Type 0
-Printed s text = PrintedBy (refusal (fileRules s)) (tablesOf s) text
+Printed s text = PrintedBy (refusal (fileRefusals s)) (tablesOf s) text
 
 -- The line is the first r bytes of the buffer; the bytes after it are as before.
 pub record AnswerIn (s : List ℕ) (r : ℕ) (before after : List ℕ) : Type 0 where

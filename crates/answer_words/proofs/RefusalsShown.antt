@@ -1,4 +1,4 @@
--- A refusal cannot be read as an answer: the rules have the numbers 1 to 21, only refusals have the code 255, and both fields are read back
+-- A refusal cannot be read as an answer: the refusals have the numbers 1 to 21, only refusals have the code 255, and both fields are read back
 -- whatever the fields above them hold.
 use mathlib.Core.Path.{_≡_, refl}
 use mathlib.Core.Bool.{Bool, true, false, cond, _&&_, and-eq-true-iff}
@@ -16,15 +16,15 @@ use Rattle.lamp_line.specs.declared.Ending.{Ending}
 use Rattle.lamp_line.specs.declared.Ending.the-variants.{Goal, Failure}
 use Rattle.lamp_line.specs.declared.Cabinet.{Cabinet}
 use Rattle.lamp_line.specs.Endings.{kindNumber}
-use Rattle.lamp_line.specs.Refusals.{Rule, _when_, refusal, orRefused, answerBy}
+use Rattle.lamp_line.specs.Refusals.{Refusal, _when_, refusal, orRefused, answerBy}
 use Rattle.lamp_line.specs.Tables.{Tables}
 use Rattle.lamp_line.specs.Run.{Walk, ended, arrived, Limited, within, stopped, pair, lampWalk, limited, run as lineRun}
 use Rattle.job_layout.specs.JobTables.{tablesOf}
 use Rattle.job_file.specs.declared.Reading.the-variants as reading
-use Rattle.job_file.specs.Reading.{fileRules, readingOf}
-use Rattle.plan_check.specs.CheckAnswers.{checkRules}
-use Rattle.line_run.specs.RunAnswers.{runRules}
-use Rattle.lamp_walk.specs.WalkAnswers.{walkRules}
+use Rattle.job_file.specs.Reading.{fileRefusals, readingOf}
+use Rattle.plan_check.specs.CheckAnswers.{checkRefusals}
+use Rattle.line_run.specs.RunAnswers.{runRefusals}
+use Rattle.lamp_walk.specs.WalkAnswers.{walkRefusals}
 use Rattle.lamp_walk.specs.declared.WalkAnswer.the-variants as walk
 use Rattle.lamp_walk.specs.WalkAnswers.{walkAnswer}
 use Rattle.lamp_walk.specs.WalkAnswers as walked
@@ -40,7 +40,7 @@ use Rattle.plan_check.specs.declared.ShortAnswer.the-variants as short
 use Rattle.plan_check.specs.ShortAnswers.{AnsweredUpTo}
 use Rattle.log_replay.specs.declared.ReplayAnswer.{ReplayAnswer}
 use Rattle.log_replay.specs.declared.ReplayAnswer.the-variants as replay
-use Rattle.log_replay.specs.ReplayAnswers.{replayRules, ReplayedBy}
+use Rattle.log_replay.specs.ReplayAnswers.{replayRefusals, ReplayedBy}
 use Rattle.log_replay.specs.ReplayAnswers as replayed
 use Rattle.cabinet.specs.declared.BeginAnswer.the-variants as begin
 use Rattle.cabinet.specs.declared.ActionAnswer.the-variants as action
@@ -70,35 +70,35 @@ ending-code : (x : Ending) → endingCode x ≤ 9
 ending-code Goal = omega arith
 ending-code (Failure kind) = kind-code kind
 
--- ---- the rules
+-- ---- the refusals
 
--- Tests that the numbers of the rules are within 1 to 21.
-unfoldable numbered : List Rule → Bool
+-- Tests that the numbers of the refusals are within 1 to 21.
+unfoldable numbered : List Refusal → Bool
 numbered [] = true
-numbered ((number when applies) ∷ rules) = leb 1 number && leb number 21 && numbered rules
+numbered ((number when applies) ∷ refusals) = leb 1 number && leb number 21 && numbered refusals
 
 abbrev Numbered : Option ℕ → Type 0
 Numbered none = Unit
 Numbered (some number) = (1 ≤ number) × (number ≤ 21)
 
--- Then so is that of the first rule that applies.
-first-number : (rules : List Rule) → numbered rules ≡ true → Numbered (refusal rules)
+-- Then so is that of the first refusal that applies.
+first-number : (refusals : List Refusal) → numbered refusals ≡ true → Numbered (refusal refusals)
 unfolding numbered refusal
 first-number [] e = tt
-first-number ((number when true) ∷ rules) e =
-    let in-range = and-eq-true-iff (leb 1 number && leb number 21) (numbered rules) .0 e .0 in
+first-number ((number when true) ∷ refusals) e =
+    let in-range = and-eq-true-iff (leb 1 number && leb number 21) (numbered refusals) .0 e .0 in
     let (low, high) = and-eq-true-iff (leb 1 number) (leb number 21) .0 in-range in
     (leb-true _ _ low, leb-true _ _ high)
-first-number ((number when false) ∷ rules) e =
-    first-number rules (and-eq-true-iff (leb 1 number && leb number 21) (numbered rules) .0 e .1)
+first-number ((number when false) ∷ refusals) e =
+    first-number refusals (and-eq-true-iff (leb 1 number && leb number 21) (numbered refusals) .0 e .1)
 
--- An operation that answers by such rules: its answer shows whether it is a refusal, if each refusal and the answer without one do.
-by-rules : {A : Type 0} (refuse : ℕ → A) (word : A → ℕ) →
+-- An operation that answers by such refusals: its answer shows whether it is a refusal, if each refusal and the answer without one do.
+by-refusals : {A : Type 0} (refuse : ℕ → A) (word : A → ℕ) →
     ((number : ℕ) → 1 ≤ number → number ≤ 21 → RefusalShown (word (refuse number))) →
-    (rules : List Rule) → numbered rules ≡ true → (answer : A) → RefusalShown (word answer) →
-    RefusalShown (word (answerBy refuse rules answer))
+    (refusals : List Refusal) → numbered refusals ≡ true → (answer : A) → RefusalShown (word answer) →
+    RefusalShown (word (answerBy refuse refusals answer))
 unfolding answerBy
-by-rules refuse word shown rules e answer right = by (refusal rules) (first-number rules e)
+by-refusals refuse word shown refusals e answer right = by (refusal refusals) (first-number refusals e)
   where
     by : (o : Option ℕ) → Numbered o → RefusalShown (word (orRefused refuse o answer))
     by none n = right
@@ -130,7 +130,7 @@ module _ {A : Type 0} (refuse : ℕ → A) (IsRight : A → List ℕ → List �
   by-check : (s : List ℕ) (x : A) (before after : Lent) → CheckedBy refuse IsRight (checkRefusal s before) x before after → RefusalShown (word x)
   unfolding numbered
   by-check s x before after h =
-      by (checkRefusal s before) (first-number (checkRules s (length (before .line)) (length (before .list)) (length (before .words))) refl) h
+      by (checkRefusal s before) (first-number (checkRefusals s (length (before .line)) (length (before .list)) (length (before .words))) refl) h
     where
       by : (o : Option ℕ) → Numbered o → CheckedBy refuse IsRight o x before after → RefusalShown (word x)
       by none n h = right x (before .line) (after .line) h
@@ -168,18 +168,18 @@ followed-shown : (t : Tables) (m : Cabinet) (target : Option ProgramState) → R
 unfolding numbered
 followed-shown t m none = refused-report m 18 (omega arith) (omega arith)
 followed-shown t m (some q) =
-    by-rules (keeping m) reportWord (refused-report m) ((19 when isMoving t m && eqb (m .lamps) 0) ∷ []) refl _ (begun-shown _)
+    by-refusals (keeping m) reportWord (refused-report m) ((19 when isMoving t m && eqb (m .lamps) 0) ∷ []) refl _ (begun-shown _)
 
 pub refusals-shown : RefusalsShown
 unfolding numbered readingOf walkAnswer runAnswer beginAnswer actionAnswer reportAnswer
 refusals-shown =
     record {
-      of-read = λ s. by-rules reading.Refused readWord refused-empty (fileRules s) refl _ (answered goalCode 0 0 0 (omega arith));
+      of-read = λ s. by-refusals reading.Refused readWord refused-empty (fileRefusals s) refl _ (answered goalCode 0 0 0 (omega arith));
       of-walk = λ s q w column.
-          by-rules walk.Refused walkWord refused-empty (walkRules s q w column) refl _
+          by-refusals walk.Refused walkWord refused-empty (walkRefusals s q w column) refl _
           (walked-shown (lampWalk (tablesOf s) (pair q w) column));
       of-run = λ s start line limit.
-          by-rules run.Refused runWord refused-empty (runRules s start line) refl _
+          by-refusals run.Refused runWord refused-empty (runRefusals s start line) refl _
           (ran-shown (limited limit (lineRun (tablesOf s) start line)));
       of-check = λ s n before after word.
           rw (word .as-number)
@@ -189,15 +189,15 @@ refusals-shown =
           rw (word .as-number)
           (by-check short.Refused (AnsweredUpTo (tablesOf s) longest) shortWord refused-empty (short-shown (tablesOf s) longest) s
           (word .answer) before after (word .checked));
-      of-begin = λ s lamps. by-rules begin.Refused beginWord refused-empty (fileRules s) refl _ (begun-shown _);
+      of-begin = λ s lamps. by-refusals begin.Refused beginWord refused-empty (fileRefusals s) refl _ (begun-shown _);
       of-action = λ s m.
-          by-rules action.Refused actionWord refused-empty _ refl _
+          by-refusals action.Refused actionWord refused-empty _ refl _
           (asked-shown (eqb (m .state .0) (tablesOf s .states)) (tablesOf s .action (m .state)));
       of-report = λ s m result.
-          by-rules (keeping m) reportWord (refused-report m) _ refl _
+          by-refusals (keeping m) reportWord (refused-report m) _ refl _
           (followed-shown (tablesOf s) m (tablesOf s .target (m .state) result));
       of-replay = λ s log n word.
-          let rules = replayRules s log in
+          let refusals = replayRefusals s log in
           rw (word .as-number)
-          (replayed-shown (refusal rules) (first-number rules refl) (tablesOf s) log (word .answer) (word .replayed));
+          (replayed-shown (refusal refusals) (first-number refusals refl) (tablesOf s) log (word .answer) (word .replayed));
     }

@@ -6,7 +6,7 @@ use Prim.Native.Nat.{ℕ}
 use Rattle.lamp_line.specs.declared.Cabinet.{Cabinet}
 use Rattle.lamp_line.specs.Tables.{programState, endKinds, columns}
 use Rattle.lamp_line.specs.Refusals.{refusal, answerBy, some-below}
-use Rattle.job_layout.specs.Rules.{numberWrong, placeWrong, lengthWrong}
+use Rattle.job_layout.specs.FileRefusals.{numberWrong, placeWrong, lengthWrong}
 use Rattle.cabinet.specs.declared.BeginAnswer.the-variants as begin
 use Rattle.cabinet.specs.declared.ActionAnswer.the-variants as action
 use Rattle.cabinet.specs.declared.ReportAnswer.the-variants as report

@@ -12,7 +12,7 @@ use Rattle.check_laws.specs.inner.Search.{met, tried, labelsFrom, placesFrom, v
 use Rattle.check_laws.proofs.VerdictRight.{verdict-right}
 use Rattle.job_layout.specs.Layout.{head}
 use Rattle.job_layout.specs.JobTables.{tablesOf}
-use Rattle.job_layout.specs.Rules.{numberWrong, placeWrong, lengthWrong}
+use Rattle.job_layout.specs.FileRefusals.{numberWrong, placeWrong, lengthWrong}
 use Rattle.job_file.specs.Reading.{readingOf, Opened}
 use Rattle.job_tables.proofs.Ranges.{well-formed}
 use Rattle.bench_line.specs.BenchJobs.{each, planBytes, benchJob, G, G-unflagged, G-circling, G-no-branch, G-final, G-test-first, G-five}

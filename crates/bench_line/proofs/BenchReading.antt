@@ -1,4 +1,4 @@
--- The refusals of files, computed for bench line G and for files that differ from it in a byte or two. Where several rules apply, the
+-- The refusals of files, computed for bench line G and for files that differ from it in a byte or two. Where several refusals apply, the
 -- lowest number wins.
 use mathlib.Core.Path.{_≡_, refl}
 use mathlib.Core.Option.{Option, none, some}
@@ -7,12 +7,12 @@ use Prim.Native.Nat.{ℕ}
 use lib.ListN.{set, take}
 use Rattle.lamp_line.specs.Tables.{endKinds, columns}
 use Rattle.lamp_line.specs.Refusals.{refusal, some-below}
-use Rattle.job_layout.specs.Rules.{numberWrong, placeWrong, lengthWrong}
-use Rattle.job_file.specs.Reading.{fileRules}
+use Rattle.job_layout.specs.FileRefusals.{numberWrong, placeWrong, lengthWrong}
+use Rattle.job_file.specs.Reading.{fileRefusals}
 use Rattle.bench_line.specs.BenchJobs.{each, planBytes, benchJob, G}
 
 abbrev refused : List ℕ → Option ℕ
-refused file = refusal (fileRules file)
+refused file = refusal (fileRefusals file)
 
 -- Each case is named after what is changed in bench line G.
 pub record BenchReading : Type 0 where

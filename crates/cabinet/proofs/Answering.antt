@@ -1,4 +1,4 @@
--- A call's answer, test by test: a refused file is answered with its number, and for a file that is not refused the machine's own rules
+-- A call's answer, test by test: a refused file is answered with its number, and for a file that is not refused the machine's own refusals
 -- decide, in their order.
 use mathlib.Core.Path.{_≡_, _∙_}
 use mathlib.Core.Bool.{true, false, cond}
@@ -11,7 +11,7 @@ use Rattle.plans.specs.Plan.{Result}
 use Rattle.lamp_line.specs.declared.ProgramState.{ProgramState}
 use Rattle.lamp_line.specs.declared.Cabinet.{Cabinet}
 use Rattle.lamp_line.specs.Refusals.{_when_, refusal, answerBy}
-use Rattle.lamp_line.proofs.Answering.{by-no-rule}
+use Rattle.lamp_line.proofs.Answering.{by-no-refusal}
 use Rattle.job_layout.specs.declared.Job.{Job}
 use Rattle.job_layout.specs.JobTables.{tablesOf}
 use Rattle.job_file.specs.declared.Reading.the-variants as reading
@@ -46,7 +46,7 @@ module _ (s : List ℕ) {j : Job} (opened : Opened s j) where
   -- Begin answers the machine in its first state.
   pub begin-opened : (count : ℕ) → beginAnswer s count ≡ begin.Begun (firstMachine (tablesOf s) count)
   unfolding beginAnswer
-  begin-opened count = file-opened begin.Refused s [] _ j opened ∙ by-no-rule begin.Refused _
+  begin-opened count = file-opened begin.Refused s [] _ j opened ∙ by-no-refusal begin.Refused _
 
   module _ (m : Cabinet) where
     not-above : m .state .0 ≤ tablesOf s .states → isAbove (tablesOf s) m ≡ false
@@ -57,55 +57,55 @@ module _ (s : List ℕ) {j : Job} (opened : Opened s j) where
 
     -- ---- the action
 
-    -- The rules of the action, without those of the file.
-    pub action-rules :
+    -- The refusals of the action, without those of the file.
+    pub action-refusals :
         actionAnswer s m
         ≡ answerBy action.Refused ((16 when isAbove (tablesOf s) m) ∷ [])
         (cond (hasEnded (tablesOf s) m) action.Ended (action.Action (tablesOf s .action (m .state))))
     unfolding actionAnswer
-    action-rules = file-opened action.Refused s _ _ j opened
+    action-refusals = file-opened action.Refused s _ _ j opened
 
     -- Above state S it is refused.
     pub action-above : tablesOf s .states < m .state .0 → actionAnswer s m ≡ action.Refused 16
     unfolding answerBy refusal
-    action-above h = action-rules ∙ rw (lt-ltb (tablesOf s .states) (m .state .0) h)
+    action-above h = action-refusals ∙ rw (lt-ltb (tablesOf s .states) (m .state .0) h)
 
     -- In state S it is Ended.
     pub action-ended : m .state .0 ≡ tablesOf s .states → actionAnswer s m ≡ action.Ended
     unfolding answerBy refusal
-    action-ended e = action-rules ∙ rw (not-above (omega arith), eq-eqb (m .state .0) (tablesOf s .states) e)
+    action-ended e = action-refusals ∙ rw (not-above (omega arith), eq-eqb (m .state .0) (tablesOf s .states) e)
 
     -- Below state S it is that of the state.
     pub action-acts : m .state .0 < tablesOf s .states → actionAnswer s m ≡ action.Action (tablesOf s .action (m .state))
     unfolding answerBy refusal
-    action-acts h = action-rules ∙ rw (not-above (omega arith), not-ended h)
+    action-acts h = action-refusals ∙ rw (not-above (omega arith), not-ended h)
 
     -- ---- a report
 
     module _ (r : Result) where
-      -- The rules of a report, without those of the file.
-      pub report-rules :
+      -- The refusals of a report, without those of the file.
+      pub report-refusals :
           reportAnswer s m r
           ≡ answerBy (keeping m) ((16 when isAbove (tablesOf s) m) ∷ (17 when hasEnded (tablesOf s) m) ∷ [])
           (followed (tablesOf s) m (tablesOf s .target (m .state) r))
       unfolding reportAnswer
-      report-rules = file-opened (keeping m) s _ _ j opened
+      report-refusals = file-opened (keeping m) s _ _ j opened
 
       -- Above state S it is refused with 16.
       pub report-above : tablesOf s .states < m .state .0 → reportAnswer s m r ≡ report.Refused 16 m
       unfolding answerBy refusal
-      report-above h = report-rules ∙ rw (lt-ltb (tablesOf s .states) (m .state .0) h)
+      report-above h = report-refusals ∙ rw (lt-ltb (tablesOf s .states) (m .state .0) h)
 
       -- In state S it is refused with 17.
       pub report-ended : m .state .0 ≡ tablesOf s .states → reportAnswer s m r ≡ report.Refused 17 m
       unfolding answerBy refusal
-      report-ended e = report-rules ∙ rw (not-above (omega arith), eq-eqb (m .state .0) (tablesOf s .states) e)
+      report-ended e = report-refusals ∙ rw (not-above (omega arith), eq-eqb (m .state .0) (tablesOf s .states) e)
 
       module _ (below : m .state .0 < tablesOf s .states) where
         -- Below state S the branch decides.
         report-followed : reportAnswer s m r ≡ followed (tablesOf s) m (tablesOf s .target (m .state) r)
         unfolding answerBy refusal
-        report-followed = report-rules ∙ rw (not-above (omega arith), not-ended below)
+        report-followed = report-refusals ∙ rw (not-above (omega arith), not-ended below)
 
         -- With no branch it is refused with 18.
         pub report-no-branch : tablesOf s .target (m .state) r ≡ none → reportAnswer s m r ≡ report.Refused 18 m

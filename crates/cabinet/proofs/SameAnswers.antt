@@ -19,7 +19,7 @@ use Rattle.job_layout.specs.JobTables.{branch, tablesOf}
 use Rattle.cabinet.specs.declared.ActionAnswer.the-variants as action
 use Rattle.cabinet.specs.CabinetAnswers.{keeping, isAbove, hasEnded, followed}
 use Rattle.cabinet.specs.ReadsPlan.{EqualForCabinet, ReadsPlanOnly}
-use Rattle.cabinet.proofs.Answering.{begin-opened, action-rules, report-rules}
+use Rattle.cabinet.proofs.Answering.{begin-opened, action-refusals, report-refusals}
 
 -- ---- equal tables
 
@@ -37,16 +37,16 @@ same-followed same m none = refl
 same-followed {t} {t′} same m (some q) = rw (same .acts (m .state), same .marks (t′ .action (m .state)))
 
 module _ {t t′ : Tables} (same : EqualTables t t′) (m : Cabinet) where
-  same-action-rules :
+  same-action-refusals :
       answerBy action.Refused ((16 when isAbove t m) ∷ []) (cond (hasEnded t m) action.Ended (action.Action (t .action (m .state))))
       ≡ answerBy action.Refused ((16 when isAbove t′ m) ∷ []) (cond (hasEnded t′ m) action.Ended (action.Action (t′ .action (m .state))))
-  same-action-rules = rw (same .states, same .acts (m .state))
+  same-action-refusals = rw (same .states, same .acts (m .state))
 
-  same-report-rules :
+  same-report-refusals :
       (r : Result) →
       answerBy (keeping m) ((16 when isAbove t m) ∷ (17 when hasEnded t m) ∷ []) (followed t m (t .target (m .state) r))
       ≡ answerBy (keeping m) ((16 when isAbove t′ m) ∷ (17 when hasEnded t′ m) ∷ []) (followed t′ m (t′ .target (m .state) r))
-  same-report-rules r = rw (same .states, same .targets (m .state) r, same-followed same m (t′ .target (m .state) r))
+  same-report-refusals r = rw (same .states, same .targets (m .state) r, same-followed same m (t′ .target (m .state) r))
 
 -- ---- equal files
 
@@ -108,6 +108,6 @@ same-answers s s′ j j′ opened opened′ equal =
     record {
       begins = λ count.
           begin-opened s opened count ∙ (rw (same .first) (sym (begin-opened s′ opened′ count)));
-      actions = λ m. action-rules s opened m ∙ same-action-rules same m ∙ sym (action-rules s′ opened′ m);
-      reports = λ m r. report-rules s opened m r ∙ same-report-rules same m r ∙ sym (report-rules s′ opened′ m r);
+      actions = λ m. action-refusals s opened m ∙ same-action-refusals same m ∙ sym (action-refusals s′ opened′ m);
+      reports = λ m r. report-refusals s opened m r ∙ same-report-refusals same m r ∙ sym (report-refusals s′ opened′ m r);
     }

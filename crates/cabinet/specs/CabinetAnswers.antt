@@ -12,7 +12,7 @@ use Rattle.lamp_line.specs.Tables.{Tables, movesOn}
 use Rattle.lamp_line.specs.Refusals.{_when_, answerBy}
 use Rattle.lamp_line.specs.Run.{isFinal}
 use Rattle.job_layout.specs.JobTables.{tablesOf}
-use Rattle.job_file.specs.Reading.{fileRules}
+use Rattle.job_file.specs.Reading.{fileRefusals}
 use Rattle.cabinet.specs.declared.BeginAnswer.{BeginAnswer}
 use Rattle.cabinet.specs.declared.BeginAnswer.the-variants as begin
 use Rattle.cabinet.specs.declared.ActionAnswer.{ActionAnswer}
@@ -55,17 +55,17 @@ module _ (t : Tables) where
 
 -- Begin with this count of lamps. Only the file can be refused.
 unfoldable pub beginAnswer : List ℕ → ℕ → BeginAnswer
-beginAnswer s count = answerBy begin.Refused (fileRules s) (begin.Begun (firstMachine (tablesOf s) count))
+beginAnswer s count = answerBy begin.Refused (fileRefusals s) (begin.Begun (firstMachine (tablesOf s) count))
 
 -- The action to do in state m, or Ended. 16: m is no state of the plan.
 unfoldable pub actionAnswer : List ℕ → Cabinet → ActionAnswer
 actionAnswer s m =
-    answerBy action.Refused (fileRules s ++ (16 when isAbove (tablesOf s) m) ∷ [])
+    answerBy action.Refused (fileRefusals s ++ (16 when isAbove (tablesOf s) m) ∷ [])
     (cond (hasEnded (tablesOf s) m) action.Ended (action.Action (tablesOf s .action (m .state))))
 
 -- The answer to the result r, reported in state m. 17: the plan has ended already.
 unfoldable pub reportAnswer : List ℕ → Cabinet → Result → ReportAnswer
 reportAnswer s m r =
     answerBy (keeping m)
-    (fileRules s ++ (16 when isAbove (tablesOf s) m) ∷ (17 when hasEnded (tablesOf s) m) ∷ [])
+    (fileRefusals s ++ (16 when isAbove (tablesOf s) m) ∷ (17 when hasEnded (tablesOf s) m) ∷ [])
     (followed (tablesOf s) m (tablesOf s .target (m .state) r))

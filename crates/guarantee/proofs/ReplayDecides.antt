@@ -21,7 +21,7 @@ use Rattle.job_layout.specs.JobTables.{tablesOf}
 use Rattle.job_tables.proofs.Ranges.{well-formed}
 use Rattle.log_replay.specs.declared.ReplayAnswer.{ReplayAnswer}
 use Rattle.log_replay.specs.declared.ReplayAnswer.the-variants as answer
-use Rattle.log_replay.specs.ReplayAnswers.{replayRules, ReplayedRight, ReplayedBy}
+use Rattle.log_replay.specs.ReplayAnswers.{replayRefusals, ReplayedRight, ReplayedBy}
 use Rattle.guarantee.specs.ReplayPromises.{PossibleExactly, PlaceExactly, ReplayDetermined, BeginningPossible, EmptyPossible, EntryOfPlan, EntriesCounted, CirclingGoesOn}
 
 -- ---- the answers
@@ -52,7 +52,7 @@ place-exactly s log (answer.Refused number) not-refused replayed place = absurd 
 
 pub replay-determined : ReplayDetermined
 unfolding ReplayedRight
-replay-determined s log r r′ = by (refusal (replayRules s log)) r r′
+replay-determined s log r r′ = by (refusal (replayRefusals s log)) r r′
   where
     by : (o : Option ℕ) (r r′ : ReplayAnswer) → ReplayedBy o (tablesOf s) log r → ReplayedBy o (tablesOf s) log r′ → r ≡ r′
     by (some number) r r′ e e′ = e ∙ sym e′

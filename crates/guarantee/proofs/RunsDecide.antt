@@ -28,7 +28,7 @@ use Rattle.lamp_walk.proofs.WalkLoop.{few-steps}
 use Rattle.line_run.specs.declared.RunAnswer.the-variants as answer
 use Rattle.line_run.specs.RunAnswers.{runAnswerOf, runAnswer}
 use Rattle.line_run.proofs.RunLoop.{line-not-wrong}
-use Rattle.line_run.proofs.RunRules.{run-by-rules}
+use Rattle.line_run.proofs.RunRefusals.{run-by-refusals}
 use Rattle.guarantee.specs.RunPromises.{RunEndsExactly, RunStopsExactly, RunCirclesExactly, RunIsBounded, Deterministic, WalkIsExecution}
 use Rattle.guarantee.proofs.Unrefused.{UnrefusedRun, unrefused-run}
 
@@ -55,7 +55,7 @@ module _ {s : List ℕ} {start : WorldState} {line : Line} (unrefused : Unrefuse
   -- Its answer is what the definition gives within the limit.
   pub answers : (limit : ℕ) → runAnswer s start line limit ≡ runAnswerOf (limited limit defined)
   answers limit =
-      run-by-rules s start line limit (unrefused .opened)
+      run-by-refusals s start line limit (unrefused .opened)
       ∙ rw (
         unrefused .beginning .marked,
         line-not-wrong (tablesOf s) line (unrefused .few) (unrefused .beginning .fits),

@@ -20,13 +20,13 @@ use Rattle.job_file.specs.Reading.{Opened}
 use Rattle.log_replay.specs.declared.ReplayAnswer.{ReplayAnswer}
 use Rattle.log_replay.specs.declared.ReplayAnswer.the-variants as answer
 use Rattle.log_replay.specs.Logs.{logOf}
-use Rattle.log_replay.specs.ReplayAnswers.{replayRules, Replayed}
+use Rattle.log_replay.specs.ReplayAnswers.{replayRefusals, Replayed}
 
 -- ---- the answers
 
 -- A statement about the answer of every replay that is not refused.
 abbrev OfEveryReplay : (List ℕ → List ℕ → ReplayAnswer → Type 0) → Type 0
-OfEveryReplay Says = (s log : List ℕ) (r : ReplayAnswer) → refusal (replayRules s log) ≡ none → Replayed s log r → Says s log r
+OfEveryReplay Says = (s log : List ℕ) (r : ReplayAnswer) → refusal (replayRefusals s log) ≡ none → Replayed s log r → Says s log r
 
 -- A log is answered to be possible exactly when some start and some line give it.
 abbrev pub PossibleExactly : Type 0

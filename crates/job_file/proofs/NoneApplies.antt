@@ -1,4 +1,4 @@
--- A job that the reader answers is the file's head, and none of the eleven rules applies to the file.
+-- A job that the reader answers is the file's head, and none of the eleven refusals applies to the file.
 use mathlib.Core.Path.{_≡_, refl, sym, subst}
 use mathlib.Core.Bool.{false}
 use mathlib.Core.Option.{Option, none, some}
@@ -9,11 +9,11 @@ use Rattle.lamp_line.specs.Refusals.{refusal, orRefused, answerBy}
 use Rattle.lamp_line.proofs.Answering.{first-not-applied}
 use Rattle.job_layout.specs.declared.Job.{Job}
 use Rattle.job_layout.specs.Layout.{head}
-use Rattle.job_layout.specs.Rules.{sizeWrong, numberWrong, placeWrong, lengthWrong, markWrong, cellWrong, endWrong, startWrong, goalWrong, actionWrong, targetWrong}
+use Rattle.job_layout.specs.FileRefusals.{sizeWrong, numberWrong, placeWrong, lengthWrong, markWrong, cellWrong, endWrong, startWrong, goalWrong, actionWrong, targetWrong}
 use Rattle.job_file.specs.declared.Reading.the-variants as reading
-use Rattle.job_file.specs.Reading.{rules, fileRules, readingOf, Opened}
+use Rattle.job_file.specs.Reading.{refusals, fileRefusals, readingOf, Opened}
 
--- The job j is the head of the file s, and none of rules 1 to 11 applies to the file.
+-- The job j is the head of the file s, and none of refusals 1 to 11 applies to the file.
 pub record NoneApplies (s : List ℕ) (j : Job) : Type 0 where
   pub is-head : j ≡ head s
   pub size : sizeWrong s ≡ false
@@ -32,7 +32,7 @@ answered : (o : Option ℕ) (h j : Job) → orRefused reading.Refused o (reading
 answered none h j e = (refl, cc)
 answered (some number) h j e = absurd (let z : _≡_ {A = ℕ} 0 1 = cc in omega arith)
 
-none-of : (s : List ℕ) (j : Job) → j ≡ head s → refusal (rules s j) ≡ none → NoneApplies s j
+none-of : (s : List ℕ) (j : Job) → j ≡ head s → refusal (refusals s j) ≡ none → NoneApplies s j
 none-of s j is-head e =
     let r₁ = first-not-applied _ _ _ e in
     let r₂ = first-not-applied _ _ _ (r₁ .1) in
@@ -64,5 +64,5 @@ none-of s j is-head e =
 pub none-applies : (s : List ℕ) (j : Job) → Opened s j → NoneApplies s j
 unfolding readingOf answerBy
 none-applies s j opened =
-    let a = answered (refusal (fileRules s)) (head s) j opened in
-    none-of s j (a .1) (subst (λ (h : Job). refusal (rules s h) ≡ none) (sym (a .1)) (a .0))
+    let a = answered (refusal (fileRefusals s)) (head s) j opened in
+    none-of s j (a .1) (subst (λ (h : Job). refusal (refusals s h) ≡ none) (sym (a .1)) (a .0))

@@ -22,8 +22,8 @@ use Rattle.job_layout.specs.declared.Job.{Job}
 use Rattle.job_layout.specs.Layout.{byte, head, markPlace, nextPlace, resultPlace, actionPlace, targetPlace}
 use Rattle.job_layout.specs.JobTables.{outcomes, tablesBy, tablesOf}
 use Rattle.job_layout.specs.inner.Laid.{Laid}
-use Rattle.job_layout.specs.Rules.{notBit, isSet, cellWrongIn, cellWrongAt, legalAt, legalAtEnd, movesOnAtEnd, actionWrongAt, targetWrongAt, rowWrong}
-use Rattle.head_rules.proofs.HeadLaws.{neither, laid}
+use Rattle.job_layout.specs.FileRefusals.{notBit, isSet, cellWrongIn, cellWrongAt, legalAt, legalAtEnd, movesOnAtEnd, actionWrongAt, targetWrongAt, rowWrong}
+use Rattle.head_refusals.proofs.HeadLaws.{neither, laid}
 use Rattle.job_file.specs.Reading.{Opened}
 use Rattle.job_file.proofs.NoneApplies.{NoneApplies, none-applies}
 

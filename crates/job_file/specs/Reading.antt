@@ -2,16 +2,16 @@
 use mathlib.Core.Path.{_≡_}
 use mathlib.Core.List.{List, [], _∷_}
 use Prim.Native.Nat.{ℕ}
-use Rattle.lamp_line.specs.Refusals.{Rule, _when_, answerBy}
+use Rattle.lamp_line.specs.Refusals.{Refusal, _when_, answerBy}
 use Rattle.job_layout.specs.declared.Job.{Job}
 use Rattle.job_layout.specs.Layout.{head}
-use Rattle.job_layout.specs.Rules.{sizeWrong, numberWrong, placeWrong, lengthWrong, markWrong, cellWrong, endWrong, startWrong, goalWrong, actionWrong, targetWrong}
+use Rattle.job_layout.specs.FileRefusals.{sizeWrong, numberWrong, placeWrong, lengthWrong, markWrong, cellWrong, endWrong, startWrong, goalWrong, actionWrong, targetWrong}
 use Rattle.job_file.specs.declared.Reading.{Reading}
 use Rattle.job_file.specs.declared.Reading.the-variants as reading
 
 -- Refusals 1 to 11, for a file s with the head j.
-abbrev pub rules : List ℕ → Job → List Rule
-rules s j =
+abbrev pub refusals : List ℕ → Job → List Refusal
+refusals s j =
     (1 when sizeWrong s) ∷
     (2 when numberWrong s j) ∷
     (3 when placeWrong s j) ∷
@@ -26,12 +26,12 @@ rules s j =
     []
 
 -- The refusals of a file. Every operation tests them before its own.
-abbrev pub fileRules : List ℕ → List Rule
-fileRules s = rules s (head s)
+abbrev pub fileRefusals : List ℕ → List Refusal
+fileRefusals s = refusals s (head s)
 
 -- The reader's answer: the job in the file's head, or the lowest refusal that applies.
 unfoldable pub readingOf : List ℕ → Reading
-readingOf s = answerBy reading.Refused (fileRules s) (reading.Job (head s))
+readingOf s = answerBy reading.Refused (fileRefusals s) (reading.Job (head s))
 
 -- The file is not refused, and the reader answers this job.
 abbrev pub Opened : List ℕ → Job → Type 0

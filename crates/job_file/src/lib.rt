@@ -3,18 +3,18 @@ ghost use mathlib.Core.Path.{_≡_};
 ghost use Rattle.job_layout.specs.inner.Laid.{Laid};
 ghost use Rattle.job_file.specs.Reading.{readingOf};
 ghost use Rattle.job_file.specs.inner.ReaderSteps.{readingFrom, refusalOf};
-use bit_rules::goal_wrong;
-use bit_rules::mark_wrong;
-use bit_rules::start_wrong;
-use cell_rules::cell_wrong;
-use cell_rules::end_wrong;
-use head_rules::length_wrong;
-use head_rules::number_wrong;
-use head_rules::place_wrong;
+use bit_refusals::goal_wrong;
+use bit_refusals::mark_wrong;
+use bit_refusals::start_wrong;
+use cell_refusals::cell_wrong;
+use cell_refusals::end_wrong;
+use head_refusals::length_wrong;
+use head_refusals::number_wrong;
+use head_refusals::place_wrong;
 use job_layout::Job;
 use job_layout::head::read_head;
-use plan_rules::action_wrong;
-use plan_rules::target_wrong;
+use plan_refusals::action_wrong;
+use plan_refusals::target_wrong;
 
 // What the reader answers: the job, or the number of a refusal.
 pub enum Reading {

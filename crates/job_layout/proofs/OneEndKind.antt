@@ -15,7 +15,7 @@ use Rattle.lamp_line.specs.Tables.{endKinds, lampColumn, columns, columnOf}
 use Rattle.lamp_line.specs.Refusals.{some-below}
 use Rattle.lamp_line.specs.Check.{rank}
 use Rattle.job_layout.specs.Layout.{byte, head, markPlace}
-use Rattle.job_layout.specs.Rules.{outside, numberWrong, differs, legalAtEnd}
+use Rattle.job_layout.specs.FileRefusals.{outside, numberWrong, differs, legalAtEnd}
 use Rattle.job_layout.specs.OneEndKind.{columnBefore, OneEndKindAsBefore}
 
 -- There is one column more than there are kinds.

@@ -1,5 +1,5 @@
+pub mod FileRefusals
 pub mod JobTables
 pub mod Layout
 pub mod OneEndKind
-pub mod Rules
 pub mod inner

@@ -17,7 +17,7 @@ use Rattle.lamp_line.specs.Check.{rank}
 use Rattle.job_layout.specs.declared.Job.{Job}
 use Rattle.job_layout.specs.Layout.{byte, head, cellsLength, goalLength, markPlace, nextPlace, goalPlace}
 use Rattle.job_layout.specs.JobTables.{tablesOf}
-use Rattle.job_layout.specs.Rules.{outside, numberWrong, differs, movesOnAtEnd}
+use Rattle.job_layout.specs.FileRefusals.{outside, numberWrong, differs, movesOnAtEnd}
 
 -- At a lamp the column is its kind; where no lamp is left it is 0.
 abbrev pub columnBefore : List ℕ → ℕ

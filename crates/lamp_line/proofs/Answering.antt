@@ -1,54 +1,54 @@
--- Laws of `answerBy`: what an operation answers, rule by rule. The proofs of the operations test their rules by these.
+-- Laws of `answerBy`: what an operation answers, refusal by refusal. The proofs of the operations test their refusals by these.
 use mathlib.Core.Path.{_≡_, refl}
 use mathlib.Core.Bool.{Bool, true, false, cond}
 use mathlib.Core.Option.{Option, none, some}
 use mathlib.Core.List.{List, [], _∷_, _++_}
 use Prim.Native.Nat.{ℕ}
 use native.Mathlib.Omega.{arith}
-use Rattle.lamp_line.specs.Refusals.{Rule, _when_, refusal, orRefused, answerBy}
+use Rattle.lamp_line.specs.Refusals.{Refusal, _when_, refusal, orRefused, answerBy}
 
--- If no rule of two lists together applies, none of either list applies.
+-- If no refusal of two lists together applies, none of either list applies.
 pub none-of-both :
-    (rules more : List Rule) → refusal (rules ++ more) ≡ none → (refusal rules ≡ none) × (refusal more ≡ none)
+    (refusals more : List Refusal) → refusal (refusals ++ more) ≡ none → (refusal refusals ≡ none) × (refusal more ≡ none)
 unfolding refusal
 none-of-both [] more e = (refl, e)
-none-of-both ((number when true) ∷ rules) more e = absurd (let z : _≡_ {A = ℕ} 0 1 = cc in omega arith)
-none-of-both ((number when false) ∷ rules) more e = none-of-both rules more e
+none-of-both ((number when true) ∷ refusals) more e = absurd (let z : _≡_ {A = ℕ} 0 1 = cc in omega arith)
+none-of-both ((number when false) ∷ refusals) more e = none-of-both refusals more e
 
--- If no rule of a list applies, the first does not, and none of the others does.
+-- If no refusal of a list applies, the first does not, and none of the others does.
 pub first-not-applied :
-    (number : ℕ) (applies : Bool) (rules : List Rule) → refusal ((number when applies) ∷ rules) ≡ none →
-    (applies ≡ false) × (refusal rules ≡ none)
+    (number : ℕ) (applies : Bool) (refusals : List Refusal) → refusal ((number when applies) ∷ refusals) ≡ none →
+    (applies ≡ false) × (refusal refusals ≡ none)
 unfolding refusal
-first-not-applied number true rules e = absurd (let z : _≡_ {A = ℕ} 0 1 = cc in omega arith)
-first-not-applied number false rules e = (refl, e)
+first-not-applied number true refusals e = absurd (let z : _≡_ {A = ℕ} 0 1 = cc in omega arith)
+first-not-applied number false refusals e = (refl, e)
 
--- The refusal of a list of rules is what they answer where there is nothing else to answer.
-pub refusal-is : (rules : List Rule) → refusal rules ≡ answerBy some rules none
+-- The refusal of a list of refusals is what they answer where there is nothing else to answer.
+pub refusal-is : (refusals : List Refusal) → refusal refusals ≡ answerBy some refusals none
 unfolding answerBy
-refusal-is rules = by (refusal rules)
+refusal-is refusals = by (refusal refusals)
   where
     by : (o : Option ℕ) → o ≡ orRefused some o none
     by none = refl
     by (some number) = refl
 
 module _ {A : Type 0} (refused : ℕ → A) where
-  -- A rule that applies gives its number; one that does not leaves the answer to the rules after it.
-  pub by-rule : (number : ℕ) (applies : Bool) (rules : List Rule) (answer : A) →
-      answerBy refused ((number when applies) ∷ rules) answer ≡ cond applies (refused number) (answerBy refused rules answer)
+  -- A refusal that applies gives its number; one that does not leaves the answer to the refusals after it.
+  pub by-refusal : (number : ℕ) (applies : Bool) (refusals : List Refusal) (answer : A) →
+      answerBy refused ((number when applies) ∷ refusals) answer ≡ cond applies (refused number) (answerBy refused refusals answer)
   unfolding answerBy refusal
-  by-rule number true rules answer = refl
-  by-rule number false rules answer = refl
+  by-refusal number true refusals answer = refl
+  by-refusal number false refusals answer = refl
 
-  -- Without rules the operation gives its own answer.
-  pub by-no-rule : (answer : A) → answerBy refused [] answer ≡ answer
+  -- Without refusals the operation gives its own answer.
+  pub by-no-refusal : (answer : A) → answerBy refused [] answer ≡ answer
   unfolding answerBy refusal
-  by-no-rule answer = refl
+  by-no-refusal answer = refl
 
-  -- The rules of the first list decide; if none applies, those of the second do.
-  pub by-rules-before : (rules more : List Rule) (answer : A) →
-      answerBy refused (rules ++ more) answer ≡ answerBy refused rules (answerBy refused more answer)
+  -- The refusals of the first list decide; if none applies, those of the second do.
+  pub by-refusals-before : (refusals more : List Refusal) (answer : A) →
+      answerBy refused (refusals ++ more) answer ≡ answerBy refused refusals (answerBy refused more answer)
   unfolding answerBy refusal
-  by-rules-before [] more answer = refl
-  by-rules-before ((number when true) ∷ rules) more answer = refl
-  by-rules-before ((number when false) ∷ rules) more answer = by-rules-before rules more answer
+  by-refusals-before [] more answer = refl
+  by-refusals-before ((number when true) ∷ refusals) more answer = refl
+  by-refusals-before ((number when false) ∷ refusals) more answer = by-refusals-before refusals more answer

@@ -1,29 +1,29 @@
--- Refusals (01, "Who can cause which number"). The rules of an operation are a list in ascending order of their numbers, each with
--- its condition; the first whose condition holds gives the refusal.
+-- Refusals (01, "Who can cause which number"). The refusals of an operation are a list in ascending order of their numbers, each with
+-- its condition; the first whose condition holds gives its number.
 use mathlib.Core.Bool.{Bool, true, false, _||_}
 use mathlib.Core.Option.{Option, none, some}
 use mathlib.Core.List.{List, [], _∷_}
 use Prim.Native.Nat.{ℕ, zero, suc}
 
--- A rule: its number, and whether its condition holds.
+-- A refusal: its number, and whether its condition holds.
 infix 20 _when_
-pub data Rule : Type 0 where
-  _when_ : ℕ → Bool → Rule
+pub data Refusal : Type 0 where
+  _when_ : ℕ → Bool → Refusal
 
--- The number of the first rule that applies, if there is one.
-unfoldable pub refusal : List Rule → Option ℕ
+-- The number of the first refusal that applies, if there is one.
+unfoldable pub refusal : List Refusal → Option ℕ
 refusal [] = none
-refusal ((number when true) ∷ rules) = some number
-refusal ((number when false) ∷ rules) = refusal rules
+refusal ((number when true) ∷ refusals) = some number
+refusal ((number when false) ∷ refusals) = refusal refusals
 
 -- The refusal with the number, if there is one; otherwise the answer.
 abbrev pub orRefused : {A : Type 0} → (ℕ → A) → Option ℕ → A → A
 orRefused refused none answer = answer
 orRefused refused (some number) answer = refused number
 
--- What an operation answers: a refusal with the number of the first rule that applies; if none applies, its own answer.
-unfoldable pub answerBy : {A : Type 0} → (ℕ → A) → List Rule → A → A
-answerBy refused rules answer = orRefused refused (refusal rules) answer
+-- What an operation answers: a refusal with the number of the first refusal that applies; if none applies, its own answer.
+unfoldable pub answerBy : {A : Type 0} → (ℕ → A) → List Refusal → A → A
+answerBy refused refusals answer = orRefused refused (refusal refusals) answer
 
 -- Some number below n has the property.
 unfoldable pub some-below : ℕ → (ℕ → Bool) → Bool

@@ -1,3 +1,3 @@
 pub mod ActionLaws
 pub mod WalkLoop
-pub mod WalkRules
+pub mod WalkRefusals

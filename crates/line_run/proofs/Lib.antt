@@ -1,2 +1,2 @@
 pub mod RunLoop
-pub mod RunRules
+pub mod RunRefusals

@@ -23,8 +23,8 @@ use Rattle.run_laws.proofs.Walks.{arrived-in-range, arrived-at-lamp}
 use Rattle.run_laws.proofs.LoopLaws.{RunOwes, run-owes-start, run-owes-passes, run-owes-ends, run-owes-stopped}
 use Rattle.job_layout.specs.declared.Job.{Job}
 use Rattle.job_layout.specs.JobTables.{tablesBy, tablesOf}
-use Rattle.job_layout.specs.Rules.{outside}
-use Rattle.head_rules.proofs.HeadLaws.{neither}
+use Rattle.job_layout.specs.FileRefusals.{outside}
+use Rattle.head_refusals.proofs.HeadLaws.{neither}
 use Rattle.job_file.specs.Reading.{Opened}
 use Rattle.line_run.specs.RunAnswers.{lineWrong}
 use Rattle.job_file.proofs.WellFormed.{tables-are, well-formed-by}
@@ -47,7 +47,7 @@ right-kinds kinds (kind ∷ lamps) e =
     let bounds = neither (ltb kind 1) (ltb kinds kind) (both .0) in
     (ltb-false _ _ (bounds .0), ltb-false _ _ (bounds .1), right-kinds kinds lamps (both .1))
 
--- A line to which rule 15 does not apply is one of the job's lines.
+-- A line to which refusal 15 does not apply is one of the job's lines.
 pub line-right : (t : Tables) (line : Line) → lineWrong (t .ends) (t .kinds) line ≡ false → Fits t line
 line-right t line e =
     let to-end = neither _ (leb (endKinds (t .ends)) (line .end)) e in
@@ -68,7 +68,7 @@ none-outside kinds [] k = refl
 none-outside kinds (kind ∷ lamps) (low, high, rest) =
     rw (le-ltb kind 1 low, le-ltb kinds kind high) (none-outside kinds lamps rest)
 
--- Rule 15 does not apply to a line of the job that is not too long.
+-- Refusal 15 does not apply to a line of the job that is not too long.
 pub line-not-wrong :
     (t : Tables) (line : Line) → length (line .lamps) ≤ 65535 → Fits t line → lineWrong (t .ends) (t .kinds) line ≡ false
 line-not-wrong t line few fits =

@@ -6,7 +6,7 @@ ghost use Rattle.lamp_line.specs.Tables.{lineOf, columns, columnOf, Kinds, Fits
 ghost use Rattle.lamp_line.specs.Refusals.{some-of};
 ghost use Rattle.lamp_line.specs.Run.{ran, run, limited};
 ghost use Rattle.job_layout.specs.JobTables.{tablesBy, tablesOf};
-ghost use Rattle.job_layout.specs.Rules.{outside};
+ghost use Rattle.job_layout.specs.FileRefusals.{outside};
 ghost use Rattle.job_file.specs.Reading.{Opened};
 ghost use Rattle.line_run.specs.RunAnswers.{lineWrong, runAnswerOf, runAnswer};
 use job_file::Reading;

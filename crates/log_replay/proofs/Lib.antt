@@ -1,4 +1,4 @@
 pub mod FollowEntry
 pub mod LogEntries
 pub mod ReplayLoop
-pub mod ReplayRules
+pub mod ReplayRefusals

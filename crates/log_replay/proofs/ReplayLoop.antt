@@ -13,7 +13,7 @@ use Rattle.plans.specs.Execution.{Label, actionOf, resultOf}
 use Rattle.lamp_line.specs.declared.ProgramState.{ProgramState}
 use Rattle.lamp_line.specs.Replay.{Possible}
 use Rattle.lamp_line.proofs.Scan.{none-at}
-use Rattle.head_rules.proofs.HeadLaws.{neither}
+use Rattle.head_refusals.proofs.HeadLaws.{neither}
 use Rattle.job_layout.specs.declared.Job.{Job}
 use Rattle.job_layout.specs.JobTables.{tablesOf}
 use Rattle.job_file.specs.Reading.{Opened}

@@ -8,10 +8,10 @@ use lib.Dec.{eqb, leb, ltb}
 use lib.ListN.{length}
 use Rattle.plans.specs.Execution.{actionOf, resultOf}
 use Rattle.lamp_line.specs.Tables.{Tables}
-use Rattle.lamp_line.specs.Refusals.{Rule, _when_, refusal, some-below}
+use Rattle.lamp_line.specs.Refusals.{Refusal, _when_, refusal, some-below}
 use Rattle.lamp_line.specs.Replay.{Possible, FirstImpossible}
 use Rattle.job_layout.specs.JobTables.{tablesOf}
-use Rattle.job_file.specs.Reading.{fileRules}
+use Rattle.job_file.specs.Reading.{fileRefusals}
 use Rattle.log_replay.specs.declared.ReplayAnswer.{ReplayAnswer}
 use Rattle.log_replay.specs.declared.ReplayAnswer.the-variants as answer
 use Rattle.log_replay.specs.Logs.{logEntry, entryCount, logOf}
@@ -29,9 +29,9 @@ abbrev pub entriesWrong : ℕ → ℕ → List ℕ → Bool
 entriesWrong actions results log = some-below (entryCount log) (entryWrong actions results log)
 
 -- The refusals of a replay: those of the file, then 20 and 21.
-abbrev pub replayRules : List ℕ → List ℕ → List Rule
-replayRules s log =
-    fileRules s ++ (20 when logSizeWrong log) ∷ (21 when entriesWrong (tablesOf s .actions) (tablesOf s .results) log) ∷ []
+abbrev pub replayRefusals : List ℕ → List ℕ → List Refusal
+replayRefusals s log =
+    fileRefusals s ++ (20 when logSizeWrong log) ∷ (21 when entriesWrong (tablesOf s .actions) (tablesOf s .results) log) ∷ []
 
 -- A right answer on tables that are not refused.
 unfoldable pub ReplayedRight : Tables → List ℕ → ReplayAnswer → Type 0
@@ -46,4 +46,4 @@ ReplayedBy none t log r = ReplayedRight t log r
 
 -- The contract of the replay, for the file's bytes, the log's bytes and the answer.
 abbrev pub Replayed : List ℕ → List ℕ → ReplayAnswer → Type 0
-Replayed s log r = ReplayedBy (refusal (replayRules s log)) (tablesOf s) log r
+Replayed s log r = ReplayedBy (refusal (replayRefusals s log)) (tablesOf s) log r

@@ -7,10 +7,10 @@ use Prim.Native.Nat.{ℕ, _+_, _*_, _≤_}
 use lib.Dec.{ltb}
 use lib.ListN.{length, take, drop}
 use Rattle.lamp_line.specs.Tables.{Tables, Line, lineOf}
-use Rattle.lamp_line.specs.Refusals.{Rule, _when_, refusal}
+use Rattle.lamp_line.specs.Refusals.{Refusal, _when_, refusal}
 use Rattle.lamp_line.specs.Check.{accepted, failed, Right}
 use Rattle.job_layout.specs.JobTables.{tablesOf}
-use Rattle.job_file.specs.Reading.{fileRules}
+use Rattle.job_file.specs.Reading.{fileRefusals}
 use Rattle.plan_check.specs.declared.Failure.{Failure}
 use Rattle.plan_check.specs.declared.CheckAnswer.{CheckAnswer}
 use Rattle.plan_check.specs.declared.CheckAnswer.the-variants as answer
@@ -24,9 +24,9 @@ abbrev pub listShort : Tables → ℕ → ℕ → Bool
 listShort t numbers words = ltb numbers ((t .states + 1) * t .worlds) || ltb (64 * words) ((t .states + 1) * t .worlds)
 
 -- The refusals of a check: those of the file, then 12 and 13. The sizes are those of the lent line buffer, working list and words.
-abbrev pub checkRules : List ℕ → ℕ → ℕ → ℕ → List Rule
-checkRules s buffer numbers words =
-    fileRules s ++ (12 when bufferShort (tablesOf s) buffer) ∷ (13 when listShort (tablesOf s) numbers words) ∷ []
+abbrev pub checkRefusals : List ℕ → ℕ → ℕ → ℕ → List Refusal
+checkRefusals s buffer numbers words =
+    fileRefusals s ++ (12 when bufferShort (tablesOf s) buffer) ∷ (13 when listShort (tablesOf s) numbers words) ∷ []
 
 -- The line of a failure: it has the kind of end that is told, and its lamps are at the front of the line buffer.
 abbrev pub failedLine : Failure → List ℕ → Line
@@ -59,7 +59,7 @@ CheckedBy refused IsRight none r before after = IsRight r (before .line) (after 
 
 -- The refusal of a call with these buffers.
 abbrev pub checkRefusal : List ℕ → Lent → Option ℕ
-checkRefusal s before = refusal (checkRules s (length (before .line)) (length (before .list)) (length (before .words)))
+checkRefusal s before = refusal (checkRefusals s (length (before .line)) (length (before .list)) (length (before .words)))
 
 -- The contract of the check, for the file's bytes, the answer, and the lent buffers before and after.
 abbrev pub Checked : List ℕ → CheckAnswer → Lent → Lent → Type 0

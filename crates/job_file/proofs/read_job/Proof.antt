@@ -1,8 +1,8 @@
--- Each test is the next rule's, and a file that passes the head's tests is laid out as it must be.
+-- Each test is the next refusal's, and a file that passes the head's tests is laid out as it must be.
 use borrow.Author.Needs.{needs}
 use mathlib.Core.Path.{sym, _∙_}
 use borrow.Author.Tests.{ltb-false}
-use Rattle.head_rules.proofs.HeadLaws.{neither, laid}
+use Rattle.head_refusals.proofs.HeadLaws.{neither, laid}
 use Rattle.job_file.proofs.ReadingLaws.{size-refused, number-refused, place-refused, length-refused, head-read}
 use Rattle.job_file.proofs.read_job.Statement.{statement}
 use Rattle.job_file.proofs.read_job.Tie as tie

@@ -1,4 +1,4 @@
--- Each test is the next rule's.
+-- Each test is the next refusal's.
 use borrow.Author.Needs.{needs}
 use Rattle.job_file.proofs.ReadingLaws.{action-refused, target-refused, plan-read}
 use Rattle.job_file.proofs.read_plan.Statement.{statement}

@@ -1,4 +1,4 @@
--- Each test is the next rule's.
+-- Each test is the next refusal's.
 use borrow.Author.Needs.{needs}
 use Rattle.job_file.proofs.ReadingLaws.{start-refused, goal-refused, goal-read}
 use Rattle.job_file.proofs.read_starts_and_goal.Statement.{statement}

@@ -1,8 +1,8 @@
--- The reader's refusal is handed on; then each test is the next rule's.
+-- The reader's refusal is handed on; then each test is the next refusal's.
 use borrow.Author.Needs.{needs}
 use native.Mathlib.Omega.{arith}
 use Rattle.job_file.proofs.Opening.{opened-by}
-use Rattle.lamp_walk.proofs.WalkRules.{walk-file-refused, walk-world-refused, walk-column-refused, walk-state-refused, walk-answered}
+use Rattle.lamp_walk.proofs.WalkRefusals.{walk-file-refused, walk-world-refused, walk-column-refused, walk-state-refused, walk-answered}
 use Rattle.lamp_walk.proofs.walk_lamp.Statement.{statement}
 use Rattle.lamp_walk.proofs.walk_lamp.Tie as tie
 

@@ -4,7 +4,7 @@ use native.Mathlib.Omega.{arith}
 use Prim.Native.Nat.{_-_}
 use lib.ListN.{length}
 use Rattle.lamp_line.proofs.Scan.{NoneBefore, none-before-start, none-before-more, list-scan-finds, list-scan-ends}
-use Rattle.job_layout.specs.Rules.{outside}
+use Rattle.job_layout.specs.FileRefusals.{outside}
 use Rattle.line_run.proofs.any_outside.Statement.{statement}
 use Rattle.line_run.proofs.any_outside.Tie as tie
 

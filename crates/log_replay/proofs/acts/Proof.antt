@@ -1,5 +1,5 @@
 -- The two tests are the definition's.
-use Rattle.log_replay.proofs.ReplayRules.{ended-acts-not, action-decides}
+use Rattle.log_replay.proofs.ReplayRefusals.{ended-acts-not, action-decides}
 use borrow.Author.Needs.{needs}
 use Rattle.log_replay.proofs.acts.Statement.{statement}
 use Rattle.log_replay.proofs.acts.Tie as tie

@@ -1,5 +1,5 @@
 -- No entry before i is wrong; the measure is the number of entries left.
-use Rattle.log_replay.proofs.ReplayRules.{wrong-here, right-here}
+use Rattle.log_replay.proofs.ReplayRefusals.{wrong-here, right-here}
 use borrow.Author.Needs.{needs}
 use native.Mathlib.Omega.{arith}
 use Prim.Native.Nat.{_-_}

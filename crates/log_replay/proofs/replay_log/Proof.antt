@@ -1,6 +1,6 @@
--- The reader's refusal is handed on; then each test is the next rule's.
+-- The reader's refusal is handed on; then each test is the next refusal's.
 use Rattle.job_file.proofs.Opening.{opened-by}
-use Rattle.log_replay.proofs.ReplayRules.{size-right, entries-are-right, replay-file-refused, replay-size-refused, replay-entries-refused, replay-answered}
+use Rattle.log_replay.proofs.ReplayRefusals.{size-right, entries-are-right, replay-file-refused, replay-size-refused, replay-entries-refused, replay-answered}
 use borrow.Author.Needs.{needs}
 use Rattle.log_replay.proofs.replay_log.Statement.{statement}
 use Rattle.log_replay.proofs.replay_log.Tie as tie

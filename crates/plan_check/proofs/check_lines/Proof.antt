@@ -1,4 +1,4 @@
--- The reader's refusal is handed on. Each test that follows is the next rule's, and what the search finds is the answer.
+-- The reader's refusal is handed on. Each test that follows is the next refusal's, and what the search finds is the answer.
 use borrow.Author.Needs.{needs}
 use native.Mathlib.Omega.{arith}
 use mathlib.Core.Path.{sym, _∙_}
@@ -9,8 +9,8 @@ use Rattle.job_file.proofs.Opening.{reading-refused}
 use Rattle.lamp_walk.proofs.WalkLoop.{few-steps}
 use Rattle.job_file.proofs.WellFormed.{sound}
 use Rattle.plan_check.specs.CheckAnswers.{Lent}
-use Rattle.plan_check.proofs.CheckRules.{file-refused-checked, buffer-refused, list-refused, words-refused}
-use Rattle.plan_check.proofs.CheckRules.{Enough, found-checked, has-room, fits-in, size-bound}
+use Rattle.plan_check.proofs.CheckRefusals.{file-refused-checked, buffer-refused, list-refused, words-refused}
+use Rattle.plan_check.proofs.CheckRefusals.{Enough, found-checked, has-room, fits-in, size-bound}
 use Rattle.plan_check.proofs.check_lines.Statement.{statement}
 use Rattle.plan_check.proofs.check_lines.Tie as tie
 
