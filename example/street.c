@@ -32,8 +32,8 @@ static uint64_t not_refused(const char *operation, uint64_t answer)
 static uint8_t byte_in(const char *text, uint8_t none)
 {
     char *rest;
-    unsigned long number = strtoul(text, &rest, 10);
-    return rest != text && *rest == '\0' && number <= 255 ? (uint8_t)number : none;
+    long number = strtol(text, &rest, 10);
+    return rest != text && *rest == '\0' && number >= 0 && number <= 255 ? (uint8_t)number : none;
 }
 
 static void take_arguments(int argc, char **argv)

@@ -28,19 +28,20 @@
  * What holds for every call:
  *
  * - Sizes count elements, not bytes. A pointer must be aligned for its type and refer to at least as many elements as its size
- *   says; it may be NULL if the size is 0. Contents, sizes and numbers may be anything: a call that makes no sense is refused.
- * - Only `head` of nessflurry_read and `line`, `list` and `words` of the two checks are ever written. They must not overlap each other
- *   or the file. A refused call writes nothing.
+ *   says; it may be NULL if the size is 0. Contents, sizes and numbers may be anything: a call that makes no sense is refused. (A
+ *   number of a wider type is cut by C before the call: 272 handed over as a uint8_t is 16.)
+ * - Only `head` of nessflurry_read, `line`, `list` and `words` of the two checks and `part` of nessflurry_fill_cells are ever written.
+ *   They must not overlap each other, the file or the rules. A refused call writes nothing.
  * - No call allocates memory, keeps a pointer, or touches anything but what it is handed, and every call returns.
- * - Threads: the library has no state of its own. Any number of calls may run at once, and may share a file, a line or a log that
- *   nobody writes meanwhile. What a call writes must not be shared while the call runs.
+ * - Threads: the library has no state of its own. Any number of calls may run at once, and may share a file, a line, a log or rules
+ *   that nobody writes meanwhile. What a call writes must not be shared while the call runs.
  * - Stack: each of the two checks needs NESSFLURRY_CHECK_STACK bytes, whatever the file; every other call needs less than 600 bytes.
- * - Time: nothing is remembered between calls, so each one tests the whole file again and costs at least what nessflurry_read does:
- *   some 0.1 microseconds for a file of a hundred bytes, some ten for the largest tables. A check takes a few milliseconds at most,
- *   and a check up to a number of lamps no longer than that.
- *   A walk makes at most S * W steps, and a run at most that many for each lamp and for the end of the line; a step takes some ten
- *   nanoseconds. A replay takes some twenty nanoseconds for an entry, and a microsecond for one that leaves every world state possible
- *   at every column: 40 milliseconds at most (docs/SPEED.md).
+ * - Time: nothing is remembered between calls, so each one that takes a job file tests the whole of it again and costs at least what
+ *   nessflurry_read does: some 0.1 microseconds for a file of a hundred bytes, some ten for the largest tables. A check takes a few
+ *   milliseconds at most, and a check up to a number of lamps no longer than that. A walk makes at most S * W steps, and a run at
+ *   most that many for each lamp and for the end of the line; a step takes some ten nanoseconds. A replay takes some twenty
+ *   nanoseconds for an entry, and a microsecond for one that leaves every world state possible at every column: 40 milliseconds at
+ *   most. To fill the largest part with cells takes a few microseconds, and up to about one more for each rule (docs/SPEED.md).
  */
 #ifndef NESSFLURRY_H
 #define NESSFLURRY_H
@@ -89,7 +90,7 @@ extern "C" {
 
 /* Codes. 0 is success, under a name for each operation; a refused call has a code of its own. */
 enum {
-    NESSFLURRY_DONE = 0,       /* read, begin, report: done */
+    NESSFLURRY_DONE = 0,       /* read, begin, report, fill cells: done */
     NESSFLURRY_GOAL = 0,       /* walk, run: ended in the final state with the goal true */
     NESSFLURRY_ACCEPTED = 0,   /* check: the plan is right on every line */
     NESSFLURRY_ACTION = 0,     /* action: there is an action to perform */
@@ -108,7 +109,7 @@ enum {
 
 /* Reasons for a refusal. Where several apply, the lowest number is given. */
 enum {
-    /* The job file: refused by every operation. */
+    /* The job file: refused by every operation that takes one. */
     NESSFLURRY_REFUSED_FILE_SIZE = 1,   /* shorter than 28 or longer than 65,535 bytes */
     NESSFLURRY_REFUSED_NUMBERS = 2,     /* one of the first eight bytes is out of range, or E + C is above 16 */
     NESSFLURRY_REFUSED_PART_PLACE = 3,  /* a part begins before byte 28 or before the previous one ends, or ends after the file */
@@ -131,8 +132,11 @@ enum {
     NESSFLURRY_REFUSED_RESULT = 18,    /* no such result, or the plan has no branch for it here */
     NESSFLURRY_REFUSED_NO_LAMP = 19,   /* the action moves on, but no lamp is left */
     /* A cabinet's log. */
-    NESSFLURRY_REFUSED_LOG_SIZE = 20,   /* replay: an odd number of bytes, or more than 65,534 */
-    NESSFLURRY_REFUSED_LOG_ENTRIES = 21 /* replay: an entry with an action or a result that the job does not have */
+    NESSFLURRY_REFUSED_LOG_SIZE = 20,    /* replay: an odd number of bytes, or more than 65,534 */
+    NESSFLURRY_REFUSED_LOG_ENTRIES = 21, /* replay: an entry with an action or a result that the job does not have */
+    /* A rules file. */
+    NESSFLURRY_REFUSED_RULES = 22,     /* fill cells: something is wrong with the rules file, or one of A, W, C, R and E out of range */
+    NESSFLURRY_REFUSED_PART_SIZE = 23  /* fill cells: `part` has not exactly 2 * A * W * (E + C) bytes */
 };
 
 /* Sizes. */
@@ -140,6 +144,7 @@ enum {
     NESSFLURRY_MAX_FILE_SIZE = 65535,   /* the longest job file, in bytes */
     NESSFLURRY_MAX_LAMPS = 65535,       /* the longest line that can be run */
     NESSFLURRY_MAX_LOG_SIZE = 65534,    /* the longest log that can be replayed, in bytes */
+    NESSFLURRY_MAX_CELLS_SIZE = 32768,  /* the longest cells part, in bytes: that of 16 actions, 64 world states and 16 columns */
     NESSFLURRY_LINE_SIZE = 4097,        /* the checks: enough elements in `line` for every job, */
     NESSFLURRY_LIST_SIZE = 4160,        /* in `list`, */
     NESSFLURRY_WORDS_SIZE = 65,         /* and in `words` */
@@ -221,6 +226,9 @@ NESSFLURRY_NODISCARD
 uint64_t nessflurry_raw_report(const uint8_t *file, size_t file_size, uint8_t state, uint16_t lamps, uint8_t result);
 NESSFLURRY_NODISCARD
 uint64_t nessflurry_raw_replay(const uint8_t *file, size_t file_size, const uint8_t *log, size_t log_size);
+NESSFLURRY_NODISCARD
+uint64_t nessflurry_raw_fill_cells(const uint8_t *rules, size_t rules_size, uint8_t actions, uint8_t worlds, uint8_t kinds,
+                                   uint8_t results, uint8_t end_kinds, uint8_t *part, size_t part_size);
 
 /* For the functions below: the bytes, or some other pointer that is not NULL where there are none. */
 static inline const uint8_t *nessflurry_not_null(const uint8_t *bytes, size_t size)
@@ -357,6 +365,40 @@ NESSFLURRY_NODISCARD
 static inline uint64_t nessflurry_replay(const uint8_t *file, size_t file_size, const uint8_t *log, size_t log_size)
 {
     return nessflurry_raw_replay(nessflurry_not_null(file, file_size), file_size, nessflurry_not_null(log, log_size), log_size);
+}
+
+/*
+ * Writes the cells part of a job file from a rules file, for people who think in fluents: whether a cover is open, what is known of a
+ * fuse. No job file is needed; the part is for one with these numbers: A `actions`, W `worlds`, C `kinds`, R `results` and E
+ * `end_kinds`, in the ranges of a job file (1 to 16, 1 to 64, 1 to 15, 1 to 8, and at least 1 with E + C at most 16). E is the number
+ * of end kinds itself; byte 6 of the job file will be E - 1.
+ *
+ * A rules file has, a byte each: the number m of fluents, 1 to 6; for each fluent how many values it has, which multiply to W; and
+ * then, up to its end, any number of rules of 3 + 2 * m bytes, or none.
+ *
+ * A world state stands for one value of each fluent, counted from 0, and the first fluent changes slowest: with 2 and 3 values, world
+ * state 4 is value 1 of the first fluent and value 1 of the second.
+ *
+ * A rule has, a byte each and in this order: an action, below A; a result, below R; a column, below E + C, or 254 for any lamp, or 255
+ * for any column; then for each fluent the value that it wants, below the fluent's number of values, or 255 for any; and then for each
+ * fluent its new value, below that number, or 255 for the value that it has. For each action, world state and column, the first rule
+ * that matches all three decides; where none does, the action is not legal. No rule can say "not legal": that is so only where no
+ * rule matches.
+ *
+ * `part` needs exactly 2 * A * W * (E + C) bytes, NESSFLURRY_MAX_CELLS_SIZE at most. NESSFLURRY_DONE: all of them have been written. The
+ * cell of action a, world state w and column c is at 2 * ((a * W + w) * (E + C) + c): its next world state and then its result, or 0
+ * and 255 where the action is not legal. No job with these five numbers is refused with 6 for it; one is refused with 7 if the
+ * rules let an action that it marks as moving on be legal at the end of a line.
+ *
+ * Refusals 22 and 23; then `part` is unchanged. 22 comes first, and reads every rule, whether or not any cell depends on it.
+ */
+NESSFLURRY_NODISCARD
+static inline uint64_t nessflurry_fill_cells(const uint8_t *rules, size_t rules_size, uint8_t actions, uint8_t worlds, uint8_t kinds,
+                                             uint8_t results, uint8_t end_kinds, uint8_t *part, size_t part_size)
+{
+    uint8_t no_part = 0;
+    return nessflurry_raw_fill_cells(nessflurry_not_null(rules, rules_size), rules_size, actions, worlds, kinds, results, end_kinds,
+                                     part_size == 0 ? &no_part : part, part_size);
 }
 
 #ifdef __cplusplus

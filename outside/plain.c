@@ -1,8 +1,8 @@
 /*
- * Reader, one-lamp walk, run and cabinet, in plain_check.c the checks and in plain_replay.c the replay, written from documents
- * 01 and 02 alone; they share nothing with crates/. They are the other side of the tests, which compare every answer with
- * them, and of the benchmark, where the walk is the plain loop. So each thing is done in the way the paper says it, and in no
- * cleverer one; the checks that remember are the exception.
+ * Reader, one-lamp walk, run and cabinet, in plain_check.c the checks, in plain_replay.c the replay and in plain_rules.c the
+ * cells from rules, written from documents 01 and 02 alone; they share nothing with crates/. They are the other side of the
+ * tests, which compare every answer with them, and of the benchmark, where the walk is the plain loop. So each thing is done in
+ * the way the paper says it, and in no cleverer one; the checks that remember are the exception.
  *
  * "01" in the comments is document 01, followed by the title of the section that is rendered; "02" is document 02, followed
  * by the request.
@@ -29,11 +29,6 @@ static unsigned offset_of(const uint8_t *file, unsigned part)
 static unsigned length_of(const uint8_t *file, unsigned part)
 {
     return number16(file + PAIRS_AT + 4 * part + 2);
-}
-
-static bool within(unsigned number, unsigned least, unsigned most)
-{
-    return least <= number && number <= most;
 }
 
 /* E - 1 is at most 15 - C, since E + C is at most 16 (02, (c)). */

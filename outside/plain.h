@@ -16,6 +16,8 @@ uint64_t plain_begin(const uint8_t *file, size_t file_size, uint16_t lamps);
 uint64_t plain_action(const uint8_t *file, size_t file_size, uint8_t state, uint16_t lamps);
 uint64_t plain_report(const uint8_t *file, size_t file_size, uint8_t state, uint16_t lamps, uint8_t result);
 uint64_t plain_replay(const uint8_t *file, size_t file_size, const uint8_t *log, size_t log_size);
+uint64_t plain_fill_cells(const uint8_t *rules, size_t rules_size, uint8_t actions, uint8_t worlds, uint8_t kinds,
+                          uint8_t results, uint8_t end_kinds, uint8_t *part, size_t part_size);
 
 /* The two checks, each in two forms that answer the same: one walks each time, the other remembers what walks came to. */
 typedef uint64_t check_call(const uint8_t *file, size_t file_size, uint8_t *line, size_t line_size, uint32_t *list,

@@ -46,6 +46,13 @@ static inline uint64_t refused(unsigned refusal)
     return answered(NESSFLURRY_REFUSED, 0, 0, 0) | refusal;
 }
 
+/* ---- Ranges ---- */
+
+static inline bool within(unsigned number, unsigned least, unsigned most)
+{
+    return least <= number && number <= most;
+}
+
 /* ---- Places in the tables (01, Job file, parts 2, 4 and 5; 02, (c)) ---- */
 
 /* The column at a lamp of this kind. That at the line's end is the end kind itself. */

@@ -10,11 +10,12 @@
 
 /* ---- The calls ---- */
 
-/* Lent to the checks of each side. Nobody clears them: a call finds what the last one left. */
+/* Lent to the calls of each side. Nobody clears them: a call finds what the last one left. */
 static struct {
     uint8_t line[NESSFLURRY_LINE_SIZE];
     uint32_t list[NESSFLURRY_LIST_SIZE];
     uint64_t words[NESSFLURRY_WORDS_SIZE];
+    uint8_t part[NESSFLURRY_MAX_CELLS_SIZE];
 } lent[CHECK_SIDES];
 
 uint64_t call_reader(int side, const struct subject *subject)
@@ -55,6 +56,14 @@ uint64_t call_replay(int side, const struct subject *subject)
     return sides[side].replay(file->bytes, file->size, subject->log.bytes, subject->log.size);
 }
 
+uint64_t call_fill(int side, const struct subject *subject)
+{
+    const struct rules *rules = subject->rules;
+    const struct fill_numbers with = rules->numbers;
+    return sides[side].fill_cells(rules->bytes, rules->size, with.actions, with.worlds, with.kinds, with.results, with.end_kinds,
+                                  lent[side].part, part_bytes(with));
+}
+
 uint64_t call_sum(int side, const struct subject *subject)
 {
     return (uint64_t)sides[side].sum(subject->words, subject->words_size, subject->bits) << 32;
@@ -87,7 +96,8 @@ static uint64_t common_answer(side_call *call, const struct subject *subject, in
     for (int side = PLAIN; side < sides_called; side++) {
         uint64_t other = call(side, subject);
         bool lines_equal = memcmp(lent[NESSFLURRY].line, lent[side].line, NESSFLURRY_LINE_SIZE) == 0;
-        if (answer == other && lines_equal && nessflurry_code_of(answer) != NESSFLURRY_REFUSED)
+        bool parts_equal = call != call_fill || memcmp(lent[NESSFLURRY].part, lent[side].part, NESSFLURRY_MAX_CELLS_SIZE) == 0;
+        if (answer == other && lines_equal && parts_equal && nessflurry_code_of(answer) != NESSFLURRY_REFUSED)
             continue;
         printf("%s: not equal, or refused: nessflurry %016" PRIx64 ", side %d %016" PRIx64 "\n", subject->name, answer, side,
                other);
@@ -130,6 +140,8 @@ void print_answer(side_call *call, const struct subject *subject, uint64_t answe
         printf("  %s after %d lamps, end kind %d\n", endings[code], nessflurry_lamps_of(answer), nessflurry_end_of(answer));
     else if (call == call_replay)
         printf("  %zu entries, %s\n", entries_of(&subject->log), code == NESSFLURRY_POSSIBLE ? "possible" : "impossible");
+    else if (call == call_fill)
+        printf("  %zu bytes of cells from %zu of rules\n", part_bytes(subject->rules->numbers), subject->rules->size);
     else if (call == call_sum)
         printf("  %" PRIu32 " ones\n", nessflurry_pairs_of(answer));
     else

@@ -104,6 +104,24 @@ void words_subject(struct subject *subject, size_t words_size, size_t bits)
     subject->bits = bits;
 }
 
+static struct rules rules;
+
+void known_rules_subject(struct subject *subject, const char *name, enum known_rules which)
+{
+    snprintf(subject->name, NAME_BYTES, "%s", name);
+    known_rules(&rules, which);
+    subject->rules = &rules;
+}
+
+void rules_subject(struct subject *subject, uint32_t fluents, size_t count, bool particular)
+{
+    const struct fill_numbers largest = {MOST_ACTIONS, MOST_WORLDS, MOST_COLUMNS - 3, MOST_RESULTS, 3};
+    const char *about = count == 0 ? "" : particular ? "_one_cell" : "_all_cells";
+    snprintf(subject->name, NAME_BYTES, "max_%u_fluents_%zu_rules%s", (unsigned)fluents, count, about);
+    sized_rules(&rules, largest, fluents, count, particular);
+    subject->rules = &rules;
+}
+
 const char *const growing_names[GROWING] = {"long walks", "many pairs"};
 
 void growing_subject(struct subject *subject, enum growing growing, uint8_t worlds, uint8_t states, uint8_t kinds)

@@ -1,11 +1,12 @@
 /*
- * What is measured: a job, with what the measured calls are handed; or words to be summed, and no job.
+ * What is measured: a job, with what the measured calls are handed; or words to be summed, or a rules file, and no job.
  */
 #ifndef OUTSIDE_SUBJECTS_H
 #define OUTSIDE_SUBJECTS_H
 
 #include "job_files/families.h"
 #include "job_files/logs.h"
+#include "job_files/random_rules.h"
 
 enum { RUN_LAMPS = 1000, NAME_BYTES = 40 };
 
@@ -19,6 +20,7 @@ struct subject {
     struct log log;
     const uint64_t *words;
     size_t words_size, bits;
+    const struct rules *rules;
 };
 
 /* Each makes the subject anew, with an empty log and 0 lamps to check up to. */
@@ -35,6 +37,10 @@ void growing_subject(struct subject *subject, enum growing growing, uint8_t worl
 /* Words of random content, at most SUBJECT_WORDS, of which this many bits are summed. There is no job. */
 enum { SUBJECT_WORDS = 65536 };
 void words_subject(struct subject *subject, size_t words_size, size_t bits);
+
+/* A known rules file; and one of this many rules for the longest part there is, each about one cell or about all of an action's. */
+void known_rules_subject(struct subject *subject, const char *name, enum known_rules which);
+void rules_subject(struct subject *subject, uint32_t fluents, size_t count, bool particular);
 
 /* Makes its log anew: an execution that goes on as far as it can, with this number of entries at most. */
 void take_log(struct subject *subject, size_t most);

@@ -18,4 +18,7 @@ void print_extremes(void);
 /* The sum of the pairs alone. */
 void print_sums(void);
 
+/* Cells from rules. */
+void print_fills(void);
+
 #endif

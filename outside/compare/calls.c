@@ -7,7 +7,7 @@
 #include "tally.h"
 
 static struct {
-    struct lent file, head, line, list, words, log;
+    struct lent file, head, line, list, words, log, rules, part;
 } lent[SIDES];
 
 /* The file as it is lent to each side, and its size. */
@@ -26,6 +26,8 @@ void open_rooms(void)
         open_room(&lent[i].list, (NESSFLURRY_LIST_SIZE + ROOM_BEYOND) * sizeof(uint32_t));
         open_room(&lent[i].words, MOST_WORDS * sizeof(uint64_t));
         open_room(&lent[i].log, NESSFLURRY_MAX_LOG_SIZE + 2);
+        open_room(&lent[i].rules, RULES_ROOM);
+        open_room(&lent[i].part, PART_ROOM);
     }
 }
 
@@ -57,11 +59,18 @@ static void place_call(enum operation operation, uint64_t first, uint64_t second
     place.arguments[2] = third;
 }
 
-/* What holds for every operation: equal answers, one that the operation has, and the file as it was. */
-static uint64_t settle(const uint64_t answers[SIDES])
+/* What holds for every operation: equal answers, and one that the operation has. */
+static uint64_t settle_answers(const uint64_t answers[SIDES])
 {
     count_answer(place.operation, answers[NESSFLURRY]);
     demand_equal(answers[NESSFLURRY], answers[PLAIN]);
+    return answers[NESSFLURRY];
+}
+
+/* What holds for those that are handed the file: it is as it was, too. */
+static uint64_t settle(const uint64_t answers[SIDES])
+{
+    settle_answers(answers);
     for (int i = 0; i < SIDES; i++)
         demand(memcmp(lent[i].file.at, place.file->bytes, size) == 0 && guard_holds(&lent[i].file), "the file as it was");
     return answers[NESSFLURRY];
@@ -260,6 +269,53 @@ uint64_t compare_check_over_ones(uint32_t longest, struct sizes sizes, uint8_t *
 uint64_t compare_check_alone(uint32_t longest, struct sizes sizes, uint8_t *failing, struct random *random)
 {
     return compare_checks(random_bytes, true, longest, sizes, failing, random);
+}
+
+/* ---- What is not handed the file ---- */
+
+static void place_fill(const struct rules *rules, size_t part_size)
+{
+    const struct fill_numbers with = rules->numbers;
+    place_call(FILL, with.actions, with.worlds, with.kinds);
+    place.arguments[3] = with.results;
+    place.arguments[4] = with.end_kinds;
+    place.arguments[5] = part_size;
+    place.rules = rules;
+}
+
+static uint8_t part_before[PART_ROOM];
+
+static uint64_t lend_and_fill(int i, const struct rules *rules, size_t part_size)
+{
+    const struct fill_numbers with = rules->numbers;
+    const uint8_t *file = lend_or_null(&lent[i].rules, RULES_FILE, rules->bytes, rules->size);
+    uint8_t *part = lend_or_null(&lent[i].part, CELLS_PART, part_before, part_size);
+    return sides[i].fill_cells(file, rules->size, with.actions, with.worlds, with.kinds, with.results, with.end_kinds, part,
+                               part_size);
+}
+
+static void judge_fill(int i, const struct rules *rules, size_t part_size, uint64_t answer)
+{
+    demand(memcmp(lent[i].rules.at, rules->bytes, rules->size) == 0 && guard_holds(&lent[i].rules), "the rules file as it was");
+    demand(guard_holds(&lent[i].part), "nothing written beside the part");
+    if (nessflurry_code_of(answer) == NESSFLURRY_REFUSED)
+        demand(memcmp(lent[i].part.at, part_before, part_size) == 0, "the part as it was, if refused");
+}
+
+uint64_t compare_fill(const struct rules *rules, size_t part_size, uint8_t *filled, struct random *random)
+{
+    uint64_t answers[SIDES];
+    random_bytes(random, part_before, part_size);
+    place_fill(rules, part_size);
+    for (int i = 0; i < SIDES; i++)
+        answers[i] = lend_and_fill(i, rules, part_size);
+    settle_answers(answers);
+    for (int i = 0; i < SIDES; i++)
+        judge_fill(i, rules, part_size, answers[i]);
+    demand(memcmp(lent[NESSFLURRY].part.at, lent[PLAIN].part.at, part_size) == 0, "equal parts");
+    if (nessflurry_code_of(answers[NESSFLURRY]) != NESSFLURRY_REFUSED)
+        memcpy(filled, lent[NESSFLURRY].part.at, part_size);
+    return answers[NESSFLURRY];
 }
 
 size_t compare_sum(const uint64_t *words, size_t words_size, size_t bits)

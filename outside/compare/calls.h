@@ -6,6 +6,7 @@
 #define OUTSIDE_CALLS_H
 
 #include "job_files/arguments.h"
+#include "job_files/rules_files.h"
 
 /* Room for what is lent: before the first call. */
 void open_rooms(void);
@@ -39,6 +40,13 @@ check_comparison compare_check_over_ones;
  */
 check_comparison compare_check_alone;
 size_t most_stack_taken(void);
+
+/*
+ * Cells from a rules file and the numbers that are given with it, into a part of this size, with random content before. Where it
+ * is filled, it is written to `filled`, of PART_ROOM bytes. The job file is not handed over.
+ */
+enum { PART_ROOM = NESSFLURRY_MAX_CELLS_SIZE + 65536 };
+uint64_t compare_fill(const struct rules *rules, size_t part_size, uint8_t *filled, struct random *random);
 
 /* The sum of at most MOST_WORDS words and any number of bits. It is not handed the file. */
 enum { MOST_WORDS = NESSFLURRY_WORDS_SIZE + ROOM_BEYOND };

@@ -1,15 +1,15 @@
 /*
- * The outside test. Job files, sound and damaged, are made from their numbers. Jobs of every number of program states and world
- * states are checked over several contents of the buffers, and words of any content are summed. On all other files every
- * operation is called on both sides and compared, and what the demands say of several calls together is tried. All of it is
- * done on a stack of the size that nessflurry.h says a check needs; and the checks of the largest jobs are made first, each
- * with that stack for itself. At last files of one end kind are answered, and have to have the answers that they had before
- * there were several.
+ * The outside test. Job files and rules files, sound and damaged, are made from their numbers. Jobs of every number of program
+ * states and world states are checked over several contents of the buffers, and words of any content are summed. On all other
+ * job files every operation on them is called on both sides and compared, and what the demands say of several calls together is
+ * tried; and parts of right and wrong sizes are filled from rules files. All of it is done on a stack of the size that
+ * nessflurry.h says a check needs; and the checks of the largest jobs are made first, each with that stack for itself. At last
+ * files of one end kind are answered, and have to have the answers that they had before there were several.
  *
  *     compare           the standard run
  *     compare long      some seven times as many files
- *     compare short     every seventeenth file
- *     compare only N    file N
+ *     compare short     every seventeenth trial
+ *     compare only N    trial N
  */
 #define _DEFAULT_SOURCE
 #include "calls.h"
@@ -43,6 +43,7 @@ static void try_sound(struct trial *trial)
     /* On bench line G's variants and the largest jobs, and on some of the random ones. */
     if (place.number < FIRST_RANDOM || one_in(&trial->random, LONG_LOG_RARITY))
         try_longest_log(trial);
+    try_rules_of_cells(trial);
 }
 
 /* Pairs and their bits, on a crowded job, which is accepted, or on a counting one, which fails at the last lamp of its line. */
@@ -70,12 +71,16 @@ static struct trial *take_trial(uint32_t number)
 static void try_number(uint32_t number)
 {
     struct trial *trial = take_trial(number);
-    if (number >= FIRST_CROWDED && number < FIRST_LARGE)
+    if (number >= FIRST_RULES && number < FIRST_RANDOM)
+        try_known_rules(trial, number - FIRST_RULES);
+    else if (number >= FIRST_CROWDED && number < FIRST_LARGE)
         try_pairs(trial);
     else if (trial->sound)
         try_sound(trial);
     else
         try_file(trial);
+    if (number >= FIRST_RANDOM)
+        try_rules(trial);
 }
 
 /* A call that reads or writes astray traps, and one that runs on is found by the alarm: either ends the test. */
@@ -126,7 +131,7 @@ static void try_all(void *chosen)
 /* The hardest jobs, with nothing but a check of the product on the small stack. */
 static void try_large(void)
 {
-    for (uint32_t number = FIRST_LARGE; number < FIRST_RANDOM; number++)
+    for (uint32_t number = FIRST_LARGE; number < FIRST_RULES; number++)
         try_checks_alone(take_trial(number));
     printf("a check of the largest jobs takes at most %zu of %d bytes of stack\n", most_stack_taken(), NESSFLURRY_CHECK_STACK);
 }

@@ -6,7 +6,7 @@
 #include <stdio.h>
 #include <stdlib.h>
 
-enum { REFUSALS = 22, CODES = 10 };
+enum { REFUSALS = 24, CODES = 10 };
 
 /* What takes the place of a code for a sum: how many of the bits are ones. */
 enum { NO_ONES, SOME_ONES, ALL_ONES };
@@ -46,6 +46,7 @@ static const struct {
                 {"log bytes"},
                 {[NESSFLURRY_POSSIBLE] = "possible", [NESSFLURRY_IMPOSSIBLE] = "impossible"},
                 NUMBERS(1, 11) | NUMBERS(20, 21)},
+    [FILL] = {"fill cells", {"A", "W", "C", "R", "E", "part bytes"}, {"filled"}, NUMBERS(22, 23)},
     [SUM] = {"sum", {"words", "bits"}, {[NO_ONES] = "none", [SOME_ONES] = "some", [ALL_ONES] = "all"}, 0},
 };
 
@@ -64,7 +65,11 @@ enum word_end { PAIRS_END_WITH_WORD, REACHED_FILL_WORDS, ALL_REACHED, WORD_ENDS 
 static const char *const word_end_names[WORD_ENDS] = {"pairs ending with a word", "64 reached or a multiple", "all reached"};
 static uint64_t word_ends[WORD_ENDS];
 
-static const char *const lendable_names[LENDABLE] = {"file", "line", "line buffer", "list", "words", "log"};
+/* Parts that were filled: by the number of fluents, the longest, and the longest rules file and most rules that filled one. */
+static uint64_t fills[MOST_FLUENTS];
+static uint32_t longest_part, longest_rules, most_rules;
+
+static const char *const lendable_names[LENDABLE] = {"file", "line", "line buffer", "list", "words", "log", "rules", "part"};
 static uint64_t nulls[LENDABLE];
 
 void count_null(enum lendable what) { nulls[what]++; }
@@ -84,12 +89,14 @@ static void keep(const char *what, const void *content, size_t content_size)
 }
 
 /*
- * What the call of the first difference was handed: of a sum its words, as they lie in memory; of the others the job, in a form
- * that the product's program and example read.
+ * What the call of the first difference was handed: of a sum its words, as they lie in memory; of a fill its rules file; of the
+ * others the job, in a form that the product's program and example read.
  */
 static void keep_handed(void)
 {
-    if (place.operation == SUM)
+    if (place.operation == FILL)
+        keep("rules", place.rules->bytes, place.rules->size);
+    else if (place.operation == SUM)
         keep("words", place.words, place.arguments[0] * sizeof *place.words);
     else
         keep("job", place.file->bytes, place.file->size);
@@ -97,7 +104,7 @@ static void keep_handed(void)
 
 static void tell_place(void)
 {
-    printf("first difference: job %" PRIu32 " (seen again by `compare only %" PRIu32 "`), %s", place.number, place.number,
+    printf("first difference: trial %" PRIu32 " (seen again by `compare only %" PRIu32 "`), %s", place.number, place.number,
            known[place.operation].name);
     for (int i = 0; i < MOST_ARGUMENTS && known[place.operation].arguments[i] != NULL; i++)
         printf(" %s %" PRIu64, known[place.operation].arguments[i], place.arguments[i]);
@@ -150,6 +157,17 @@ static void note_failure(uint64_t answer)
         failures[end]++;
 }
 
+static void note_filled(void)
+{
+    uint8_t fluents = place.rules->bytes[0];
+    note_most(&longest_part, (uint32_t)place.arguments[5]);
+    note_most(&longest_rules, (uint32_t)place.rules->size);
+    note_most(&most_rules, (uint32_t)rules_in(place.rules));
+    demand(fluents >= 1 && fluents <= MOST_FLUENTS, "no part filled with a number of fluents that no rules file has");
+    if (fluents >= 1 && fluents <= MOST_FLUENTS)
+        fills[fluents - 1]++;
+}
+
 static void note_extremes(enum operation operation, uint64_t answer)
 {
     uint8_t code = nessflurry_code_of(answer);
@@ -161,6 +179,8 @@ static void note_extremes(enum operation operation, uint64_t answer)
         note_most(&most_possible_bytes, (uint32_t)place.arguments[0]);
     else if (operation == REPLAY)
         note_most(&furthest_place, nessflurry_place_of(answer));
+    else if (operation == FILL)
+        note_filled();
 }
 
 /* Beside refusal and code a refused report has a state and lamps, and nothing else has anything. */
@@ -231,6 +251,11 @@ void print_tally(void)
     printf("\n");
     printf("longest possible log %" PRIu32 " bytes, furthest place of an impossible one %" PRIu32 "\n", most_possible_bytes,
            furthest_place);
+    printf("parts filled by fluents:");
+    for (int fluents = 1; fluents <= MOST_FLUENTS; fluents++)
+        printf(" %" PRIu64, fills[fluents - 1]);
+    printf("; longest part %" PRIu32 " bytes, longest rules file %" PRIu32 ", most rules %" PRIu32 "\n", longest_part,
+           longest_rules, most_rules);
 }
 
 static bool seen(enum operation operation)
@@ -255,6 +280,26 @@ static bool longest_log_seen(void)
         return true;
     printf("never seen: a possible log of %d bytes\n", NESSFLURRY_MAX_LOG_SIZE);
     return false;
+}
+
+static bool fill_seen(bool was_seen, const char *which)
+{
+    if (!was_seen)
+        printf("never seen: a filled part %s\n", which);
+    return was_seen;
+}
+
+static bool fills_seen(void)
+{
+    bool all = fill_seen(longest_part == NESSFLURRY_MAX_CELLS_SIZE, "of the greatest length");
+    all = fill_seen(longest_rules > NESSFLURRY_MAX_FILE_SIZE, "from a rules file that is longer than a job file may be") && all;
+    all = fill_seen(most_rules > UINT16_MAX, "from more than 65,535 rules") && all;
+    for (int fluents = 1; fluents <= MOST_FLUENTS; fluents++)
+        if (fills[fluents - 1] == 0) {
+            printf("never seen: a part filled by rules with %d fluents\n", fluents);
+            all = false;
+        }
+    return all;
 }
 
 static bool end_kinds_seen(void)
@@ -282,6 +327,7 @@ static bool word_ends_seen(void)
 bool all_seen(void)
 {
     bool all = longest_log_seen();
+    all = fills_seen() && all;
     all = end_kinds_seen() && all;
     all = word_ends_seen() && all;
     for (enum operation operation = READ; operation < OPERATIONS; operation++)

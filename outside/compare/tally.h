@@ -4,16 +4,17 @@
 #ifndef OUTSIDE_TALLY_H
 #define OUTSIDE_TALLY_H
 
-#include "job_files/job_files.h"
+#include "job_files/rules_files.h"
 
-enum operation { READ, WALK, RUN, CHECK, CHECK_UP_TO, BEGIN, ACTION, REPORT, REPLAY, SUM, OPERATIONS };
+enum operation { READ, WALK, RUN, CHECK, CHECK_UP_TO, BEGIN, ACTION, REPORT, REPLAY, FILL, SUM, OPERATIONS };
 
 /* Where the test is: told with the first difference, so that it can be seen again. */
-enum { MOST_ARGUMENTS = 4 };
+enum { MOST_ARGUMENTS = 6 };
 struct place {
-    uint32_t number; /* of the job */
+    uint32_t number; /* of the trial */
     const struct file *file;
-    const uint64_t *words; /* of a sum, which is not handed the file */
+    const struct rules *rules; /* of a fill, which is not handed the file */
+    const uint64_t *words;     /* of a sum, which is not either */
     enum operation operation;
     uint64_t arguments[MOST_ARGUMENTS];
 };
@@ -26,7 +27,7 @@ void count_answer(enum operation operation, uint64_t answer);
 void count_sum(size_t sum, size_t bits);
 
 /* Counts something that is lent as NULL, because it is empty. */
-enum lendable { JOB_FILE, LINE, LINE_BUFFER, WORKING_LIST, WORKING_WORDS, LOG, LENDABLE };
+enum lendable { JOB_FILE, LINE, LINE_BUFFER, WORKING_LIST, WORKING_WORDS, LOG, RULES_FILE, CELLS_PART, LENDABLE };
 void count_null(enum lendable what);
 
 /* Counts a difference, and tells of the first: what was demanded, and what the sides answered. */
@@ -40,8 +41,9 @@ void print_tally(void);
 
 /*
  * Whether every answer and every refusal of every operation, a failure with each end kind, accepted checks whose pairs, or
- * those reached, fill words, one that reaches all pairs, each thing as NULL and a possible log of the greatest length have been
- * seen; names what has not.
+ * those reached, fill words, one that reaches all pairs, each thing as NULL, a possible log of the greatest length, parts filled
+ * with each number of fluents, one of the greatest length, one by a rules file that is longer than a job file may be, and one by
+ * more rules than a number of 16 bits can say have been seen; names what has not.
  */
 bool all_seen(void);
 

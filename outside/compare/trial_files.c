@@ -60,7 +60,9 @@ static void make_counting(struct job *job, uint32_t which)
 static void make_numbered_job(struct job *job, uint32_t number)
 {
     uint32_t large = number - FIRST_LARGE;
-    if (number >= FIRST_LARGE)
+    if (number >= FIRST_RULES)
+        bench_line(job, BENCH_G); /* which no rules file is tried with */
+    else if (number >= FIRST_LARGE)
         sized_job(job, large % SIZED_JOBS, FULL + large / SIZED_JOBS);
     else if (number >= FIRST_COUNTING)
         make_counting(job, number - FIRST_COUNTING);

@@ -5,6 +5,7 @@
 #define OUTSIDE_TRIALS_H
 
 #include "job_files/families.h"
+#include "job_files/rules_files.h"
 
 struct trial {
     struct random random;
@@ -12,6 +13,17 @@ struct trial {
     struct file file;
     bool sound;     /* the file is that of the job, with nothing damaged */
     unsigned due;   /* the refusal that is due for the file, or 0 where it is sound or not known */
+};
+
+/* Trials of rules files that do not depend on a job: what each of them goes through is in try_known_rules.c. */
+enum {
+    KNOWN_RULES_PLACES = (47 + 5) + (37 + 5) + (52 + 5), /* bytes of the known files, and the numbers that are given with each */
+    FIRST_RULES_SIZES = KNOWN_RULES_PLACES,              /* before it: each of these places */
+    FIRST_LAMP_KINDS = FIRST_RULES_SIZES + KNOWN_RULES,  /* before it: the sizes of each file */
+    FIRST_COUNTS = FIRST_LAMP_KINDS + 256,               /* before it: each number of lamp kinds */
+    FIRST_MANY_RULES = FIRST_COUNTS + 256,               /* before it: each count of a first fluent */
+    LEAST_MANY_RULES = UINT16_MAX - 7,                   /* rules of the first of those with many */
+    RULES_TRIALS = FIRST_MANY_RULES + 32                 /* more than 17 with over 65,535 rules, so that a short run has one */
 };
 
 /* Trials are numbered from 0. From FIRST_RANDOM on they are random; those before go through what can be gone through. */
@@ -24,7 +36,8 @@ enum {
     FIRST_CROWDED = FIRST_BENCH + BENCH_VARIANTS,
     FIRST_COUNTING = FIRST_CROWDED + (MOST_STATES + 1) * MOST_WORLDS, /* before it: a crowded job of each S and W */
     FIRST_LARGE = FIRST_COUNTING + (MOST_STATES - 1) * MOST_WORLDS,   /* before it: a counting job of each W, and S from 2 on */
-    FIRST_RANDOM = FIRST_LARGE + (SIZES - FULL) * SIZED_JOBS
+    FIRST_RULES = FIRST_LARGE + (SIZES - FULL) * SIZED_JOBS,
+    FIRST_RANDOM = FIRST_RULES + RULES_TRIALS
 };
 void make_trial(struct trial *trial, uint32_t number);
 
@@ -55,5 +68,14 @@ void lead_cabinet(struct trial *trial, bool accepted);
 /* Logs, most of them with a few entries; and one with as many as there may be, if the plan goes on for so long. */
 void try_logs(struct trial *trial);
 void try_longest_log(struct trial *trial);
+
+/* Any rules files, sound and damaged, with parts of right and wrong sizes; and what holds of a filled part in a job file. */
+void try_rules(struct trial *trial);
+
+/* Rules that say the cells of the job, if it has not too many. */
+void try_rules_of_cells(struct trial *trial);
+
+/* One of the RULES_TRIALS. */
+void try_known_rules(struct trial *trial, uint32_t which);
 
 #endif

@@ -7,23 +7,12 @@
 
 /* ---- Numbers, starts and gaps ---- */
 
-static uint8_t number(struct random *random, uint8_t least, uint8_t most)
-{
-    uint8_t small = most - least < 4 ? most : (uint8_t)(least + 3);
-    switch (below(random, 8)) {
-    case 0: return most;
-    case 1:
-    case 2: return (uint8_t)(least + below(random, most - least + 1u));
-    default: return (uint8_t)(least + below(random, small - least + 1u));
-    }
-}
-
 /* End kinds for which there is room beside the lamp kinds, often all; where there is none, some columns are taken from those. */
 static void choose_ends(struct job *job, struct random *random)
 {
     uint8_t most = MOST_KINDS - job->kinds;
     if (most > 0) {
-        job->last_end = one_in(random, 4) ? most : number(random, 0, most);
+        job->last_end = one_in(random, 4) ? most : mostly_small(random, 0, most);
     } else {
         job->last_end = (uint8_t)below(random, MOST_ENDS);
         job->kinds = MOST_KINDS - job->last_end;
@@ -34,11 +23,11 @@ static void choose_ends(struct job *job, struct random *random)
 static void choose_numbers(struct job *job, struct random *random, bool several_ends, uint8_t actions, uint8_t results,
                            uint8_t states)
 {
-    job->actions = number(random, actions, MOST_ACTIONS);
-    job->worlds = number(random, 1, MOST_WORLDS);
-    job->kinds = number(random, 1, MOST_KINDS);
-    job->results = number(random, results, MOST_RESULTS);
-    job->states = number(random, states, MOST_STATES);
+    job->actions = mostly_small(random, actions, MOST_ACTIONS);
+    job->worlds = mostly_small(random, 1, MOST_WORLDS);
+    job->kinds = mostly_small(random, 1, MOST_KINDS);
+    job->results = mostly_small(random, results, MOST_RESULTS);
+    job->states = mostly_small(random, states, MOST_STATES);
     job->last_end = 0;
     if (one_in(random, 60))
         largest_numbers(job);
@@ -221,7 +210,7 @@ static void random_turning_job(struct job *job, struct random *random, bool seve
     choose_numbers(job, random, several_ends, 2, 3, 2);
     if (job->states * job->worlds > 512 && !one_in(random, 8)) /* a check by walking takes long where both are large */
         job->worlds = (uint8_t)(512 / job->states);
-    uint8_t movers = number(random, 1, job->states - 1);
+    uint8_t movers = mostly_small(random, 1, job->states - 1);
     turning_job(job, movers, (uint32_t)random_word(random));
 }
 

@@ -1,5 +1,5 @@
 /*
- * The layout of a job file, bench line G, a job of three end kinds, and the README's example.
+ * The layout of a job file, bench line G, a job of three end kinds, and the README's examples.
  */
 #include "job_files.h"
 
@@ -227,7 +227,7 @@ void three_ends_job(struct job *job)
     set_row(job, 3, THREE_SET_FUSE, 4, NONE);
 }
 
-/* ---- The README's example ---- */
+/* ---- The README's examples ---- */
 
 enum { EXAMPLE_PEEK, EXAMPLE_NEXT };
 
@@ -242,4 +242,37 @@ void example_job(struct job *job)
     job->goal[0][0] = 1;
     set_row(job, 0, EXAMPLE_PEEK, 2, 1);
     set_row(job, 1, EXAMPLE_NEXT, 0, NONE);
+}
+
+enum { STREET_LOOK, STREET_FIT_FUSE, STREET_NEXT };
+enum { NONE_LEFT, NEW_FUSE, LEFT_DARK }; /* 3 is a new fuse after a lamp that was left dark */
+enum { DARK = 2 }; /* a lit lamp is of kind 1 */
+
+static struct cell street_cell(int action, uint8_t world, uint8_t column)
+{
+    const struct cell not_legal = {0, NONE};
+    const bool needs_fuse = column == DARK && world % LEFT_DARK != NEW_FUSE;
+    if (action == STREET_LOOK)
+        return (struct cell){world, column};
+    if (action == STREET_FIT_FUSE)
+        return needs_fuse ? (struct cell){(uint8_t)(world + NEW_FUSE), 0} : not_legal;
+    if (column == 0)
+        return not_legal;
+    return (struct cell){needs_fuse || world >= LEFT_DARK ? LEFT_DARK : NONE_LEFT, 0};
+}
+
+void street_job(struct job *job)
+{
+    empty_job(job, (struct job_numbers){.actions = 3, .worlds = 4, .kinds = 2, .results = 3, .states = 3});
+    job->marks[STREET_NEXT] = 1;
+    job->starts[NONE_LEFT] = 1;
+    job->goal[NONE_LEFT][0] = 1;
+    for (int action = 0; action < job->actions; action++)
+        for (uint8_t world = 0; world < job->worlds; world++)
+            for (uint8_t column = 0; column < columns_of(job); column++)
+                job->cells[action][world][column] = street_cell(action, world, column);
+    set_row(job, 0, STREET_LOOK, 3, 2);
+    job->target[0][DARK] = 1;
+    set_row(job, 1, STREET_FIT_FUSE, 2, NONE);
+    set_row(job, 2, STREET_NEXT, 0, NONE);
 }

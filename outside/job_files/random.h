@@ -33,6 +33,18 @@ static inline uint32_t another_below(struct random *random, uint32_t n, uint32_t
 
 static inline bool one_in(struct random *random, uint32_t n) { return below(random, n) == 0; }
 
+/* A number from the least to the most: one of the least four often, and the most sometimes. */
+static inline uint8_t mostly_small(struct random *random, uint8_t least, uint8_t most)
+{
+    uint8_t small = most - least < 4 ? most : (uint8_t)(least + 3);
+    switch (below(random, 8)) {
+    case 0: return most;
+    case 1:
+    case 2: return (uint8_t)(least + below(random, most - least + 1u));
+    default: return (uint8_t)(least + below(random, small - least + 1u));
+    }
+}
+
 static inline void random_bytes(struct random *random, void *to, size_t size)
 {
     uint8_t *bytes = to;

@@ -71,6 +71,12 @@ void take_three_ends(void)
     write_job();
 }
 
+void take_street(void)
+{
+    street_job(&job);
+    write_job();
+}
+
 void take_final(uint8_t worlds, uint8_t kinds, uint8_t ends, const uint8_t *goal)
 {
     job = (struct job){.actions = 1, .worlds = worlds, .kinds = kinds, .results = 1, .last_end = ends - 1};

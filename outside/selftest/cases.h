@@ -16,6 +16,7 @@ void replay_cases(void);
 void end_kind_cases(void);
 void sample_cases(void);
 void sum_cases(void);
+void rules_cases(void);
 
 /* Prints how many of its jobs were accepted, and how many failed in which way on how long a line. */
 void random_cases(void);
@@ -31,8 +32,8 @@ extern unsigned compared, differing;
 void expect(const char *what, uint64_t got, uint64_t wanted);
 
 /*
- * Answers as nessflurry.h lays them out, with the refusal numbers of document 01: an ending or an accepted check; a failed
- * check; a refused call; a cabinet's state, which comes from a refused report if the refusal is not 0.
+ * Answers as nessflurry.h lays them out, with the refusal numbers of documents 01 and 02: an ending or an accepted check; a
+ * failed check; a refused call; a cabinet's state, which comes from a refused report if the refusal is not 0.
  */
 uint64_t ending(unsigned code, uint32_t count);
 uint64_t failing(unsigned kind, unsigned start, uint32_t lamps, unsigned end);
@@ -56,6 +57,9 @@ void take_bench(enum bench_variant variant);
 
 /* The job of three end kinds becomes the job at hand. */
 void take_three_ends(void);
+
+/* The README's street becomes the job at hand. */
+void take_street(void);
 
 /*
  * A job whose first state is the final one becomes the job at hand. The goal is true where the bytes by world and column say so,

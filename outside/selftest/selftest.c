@@ -14,8 +14,9 @@ int main(void)
     end_kind_cases();
     sample_cases();
     sum_cases();
-    printf("bench line G, refusals, long lines, forms of the checks, checks up to some lamps, logs, end kinds, samples, sums: "
-           "%u answers compared, %u differ\n",
+    rules_cases();
+    printf("bench line G, refusals, long lines, forms of the checks, checks up to some lamps, logs, end kinds, samples, sums, "
+           "rules: %u answers compared, %u differ\n",
            compared, differing);
     random_cases();
     log_cases();

@@ -1,4 +1,4 @@
--- A refusal cannot be read as an answer: the refusals have the numbers 1 to 21, only refusals have the code 255, and both fields are read back
+-- A refusal cannot be read as an answer: the refusals have the numbers 1 to 23, only refusals have the code 255, and both fields are read back
 -- whatever the fields above them hold.
 use mathlib.Core.Path.{_≡_, refl}
 use mathlib.Core.Bool.{Bool, true, false, cond, _&&_, and-eq-true-iff}
@@ -42,10 +42,12 @@ use Rattle.log_replay.specs.declared.ReplayAnswer.{ReplayAnswer}
 use Rattle.log_replay.specs.declared.ReplayAnswer.the-variants as replay
 use Rattle.log_replay.specs.ReplayAnswers.{replayRefusals, ReplayedBy}
 use Rattle.log_replay.specs.ReplayAnswers as replayed
+use Rattle.cell_filling.specs.declared.FillAnswer.the-variants as fill
+use Rattle.cell_filling.specs.FillAnswers.{fillRefusals, fillAnswer}
 use Rattle.cabinet.specs.declared.BeginAnswer.the-variants as begin
 use Rattle.cabinet.specs.declared.ActionAnswer.the-variants as action
 use Rattle.cabinet.specs.CabinetAnswers.{keeping, isMoving, followed, beginAnswer, actionAnswer, reportAnswer}
-use Rattle.answer_words.specs.AnswerWords.{answerWord, goalCode, stoppedCode, arrivedCode, endedCode, impossibleCode, noneUpToCode, refusedCode, endingCode, refusedWord, cabinetWord, readWord, walkWord, runWord, failedWord, checkWord, shortWord, beginWord, actionWord, reportWord, replayWord}
+use Rattle.answer_words.specs.AnswerWords.{answerWord, goalCode, stoppedCode, arrivedCode, endedCode, impossibleCode, noneUpToCode, refusedCode, endingCode, refusedWord, cabinetWord, readWord, walkWord, runWord, failedWord, checkWord, shortWord, beginWord, actionWord, reportWord, replayWord, fillWord}
 use Rattle.answer_words.specs.Fields.{RefusalShown, RefusalsShown}
 
 -- ---- one word
@@ -56,9 +58,9 @@ unfolding answerWord
 answered code state world count code≤ = (λ e. absurd (omega arith), λ not-0. absurd (not-0 (omega arith)))
 
 -- A refusal has the code 255, and its number in the refusal field.
-refused : (number state count : ℕ) → 1 ≤ number → number ≤ 21 → RefusalShown (answerWord number refusedCode state 0 count)
+refused : (number state count : ℕ) → 1 ≤ number → number ≤ 23 → RefusalShown (answerWord number refusedCode state 0 count)
 unfolding answerWord
-refused number state count 1≤ ≤21 = (λ e is-0. omega arith, λ not-0. omega arith)
+refused number state count 1≤ ≤23 = (λ e is-0. omega arith, λ not-0. omega arith)
 
 kind-code : (kind : FailureKind) → kindNumber kind ≤ 9
 kind-code NotLegal = omega arith
@@ -72,29 +74,29 @@ ending-code (Failure kind) = kind-code kind
 
 -- ---- the refusals
 
--- Tests that the numbers of the refusals are within 1 to 21.
+-- Tests that the numbers of the refusals are within 1 to 23.
 unfoldable numbered : List Refusal → Bool
 numbered [] = true
-numbered ((number when applies) ∷ refusals) = leb 1 number && leb number 21 && numbered refusals
+numbered ((number when applies) ∷ refusals) = leb 1 number && leb number 23 && numbered refusals
 
 abbrev Numbered : Option ℕ → Type 0
 Numbered none = Unit
-Numbered (some number) = (1 ≤ number) × (number ≤ 21)
+Numbered (some number) = (1 ≤ number) × (number ≤ 23)
 
 -- Then so is that of the first refusal that applies.
 first-number : (refusals : List Refusal) → numbered refusals ≡ true → Numbered (refusal refusals)
 unfolding numbered refusal
 first-number [] e = tt
 first-number ((number when true) ∷ refusals) e =
-    let in-range = and-eq-true-iff (leb 1 number && leb number 21) (numbered refusals) .0 e .0 in
-    let (low, high) = and-eq-true-iff (leb 1 number) (leb number 21) .0 in-range in
+    let in-range = and-eq-true-iff (leb 1 number && leb number 23) (numbered refusals) .0 e .0 in
+    let (low, high) = and-eq-true-iff (leb 1 number) (leb number 23) .0 in-range in
     (leb-true _ _ low, leb-true _ _ high)
 first-number ((number when false) ∷ refusals) e =
-    first-number refusals (and-eq-true-iff (leb 1 number && leb number 21) (numbered refusals) .0 e .1)
+    first-number refusals (and-eq-true-iff (leb 1 number && leb number 23) (numbered refusals) .0 e .1)
 
 -- An operation that answers by such refusals: its answer shows whether it is a refusal, if each refusal and the answer without one do.
 by-refusals : {A : Type 0} (refuse : ℕ → A) (word : A → ℕ) →
-    ((number : ℕ) → 1 ≤ number → number ≤ 21 → RefusalShown (word (refuse number))) →
+    ((number : ℕ) → 1 ≤ number → number ≤ 23 → RefusalShown (word (refuse number))) →
     (refusals : List Refusal) → numbered refusals ≡ true → (answer : A) → RefusalShown (word answer) →
     RefusalShown (word (answerBy refuse refusals answer))
 unfolding answerBy
@@ -106,7 +108,7 @@ by-refusals refuse word shown refusals e answer right = by (refusal refusals) (f
 
 -- ---- the operations
 
-refused-empty : (number : ℕ) → 1 ≤ number → number ≤ 21 → RefusalShown (refusedWord number)
+refused-empty : (number : ℕ) → 1 ≤ number → number ≤ 23 → RefusalShown (refusedWord number)
 refused-empty number = refused number 0 0
 
 begun-shown : (m : Cabinet) → RefusalShown (cabinetWord 0 goalCode m)
@@ -125,7 +127,7 @@ failed-shown f = answered (kindNumber (f .kind)) (f .start .0) (f .end) (f .lamp
 
 -- Either check: its answer shows whether it is a refusal, if each answer that is right does.
 module _ {A : Type 0} (refuse : ℕ → A) (IsRight : A → List ℕ → List ℕ → Type 0) (word : A → ℕ)
-    (shown : (number : ℕ) → 1 ≤ number → number ≤ 21 → RefusalShown (word (refuse number)))
+    (shown : (number : ℕ) → 1 ≤ number → number ≤ 23 → RefusalShown (word (refuse number)))
     (right : (x : A) (line line′ : List ℕ) → IsRight x line line′ → RefusalShown (word x)) where
   by-check : (s : List ℕ) (x : A) (before after : Lent) → CheckedBy refuse IsRight (checkRefusal s before) x before after → RefusalShown (word x)
   unfolding numbered
@@ -161,7 +163,7 @@ asked-shown : (final : Bool) (a : ℕ) → RefusalShown (actionWord (cond final 
 asked-shown true a = answered endedCode 0 0 0 (omega arith)
 asked-shown false a = answered goalCode a 0 0 (omega arith)
 
-refused-report : (m : Cabinet) (number : ℕ) → 1 ≤ number → number ≤ 21 → RefusalShown (reportWord (keeping m number))
+refused-report : (m : Cabinet) (number : ℕ) → 1 ≤ number → number ≤ 23 → RefusalShown (reportWord (keeping m number))
 refused-report m number = refused number (m .state .0) (m .lamps)
 
 followed-shown : (t : Tables) (m : Cabinet) (target : Option ProgramState) → RefusalShown (reportWord (followed t m target))
@@ -171,7 +173,7 @@ followed-shown t m (some q) =
     by-refusals (keeping m) reportWord (refused-report m) ((19 when isMoving t m && eqb (m .lamps) 0) ∷ []) refl _ (begun-shown _)
 
 pub refusals-shown : RefusalsShown
-unfolding numbered readingOf walkAnswer runAnswer beginAnswer actionAnswer reportAnswer
+unfolding numbered readingOf walkAnswer runAnswer beginAnswer actionAnswer reportAnswer fillAnswer
 refusals-shown =
     record {
       of-read = λ s. by-refusals reading.Refused readWord refused-empty (fileRefusals s) refl _ (answered goalCode 0 0 0 (omega arith));
@@ -200,4 +202,5 @@ refusals-shown =
           let refusals = replayRefusals s log in
           rw (word .as-number)
           (replayed-shown (refusal refusals) (first-number refusals refl) (tablesOf s) log (word .answer) (word .replayed));
+      of-fill = λ s n size. by-refusals fill.Refused fillWord refused-empty (fillRefusals s n size) refl _ (answered goalCode 0 0 0 (omega arith));
     }

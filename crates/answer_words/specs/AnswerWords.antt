@@ -24,6 +24,8 @@ use Rattle.plan_check.specs.ShortAnswers.{CheckedUpTo}
 use Rattle.log_replay.specs.declared.ReplayAnswer.{ReplayAnswer}
 use Rattle.log_replay.specs.declared.ReplayAnswer.the-variants as replay
 use Rattle.log_replay.specs.ReplayAnswers.{Replayed}
+use Rattle.cell_filling.specs.declared.FillAnswer.{FillAnswer}
+use Rattle.cell_filling.specs.declared.FillAnswer.the-variants as fill
 use Rattle.cabinet.specs.declared.BeginAnswer.{BeginAnswer}
 use Rattle.cabinet.specs.declared.BeginAnswer.the-variants as begin
 use Rattle.cabinet.specs.declared.ActionAnswer.{ActionAnswer}
@@ -39,7 +41,8 @@ answerWord refusal code state world count = refusal + 256 * code + 65536 * state
 
 -- ---- the codes
 
--- Goal. It is also the code where a file is read, a plan accepted, an action named, a cabinet begun, a report taken or a log possible.
+-- Goal. It is also the code where a file is read, a plan accepted, an action named, a cabinet begun, a report taken, a log possible or a cells
+-- part filled.
 abbrev pub goalCode : ℕ
 goalCode = 0
 
@@ -170,3 +173,8 @@ pub record ReplayedWord (s log : List ℕ) (r : ℕ) : Type 0 where
   pub answer : ReplayAnswer
   pub replayed : Replayed s log answer
   pub as-number : r ≡ replayWord answer
+
+-- The generator writes the cells to the lent part; the word says only whether the call is refused.
+abbrev pub fillWord : FillAnswer → ℕ
+fillWord fill.Filled = answerWord 0 goalCode 0 0 0
+fillWord (fill.Refused number) = refusedWord number

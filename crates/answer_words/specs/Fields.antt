@@ -7,12 +7,14 @@ use Rattle.lamp_line.specs.declared.ProgramState.{ProgramState}
 use Rattle.lamp_line.specs.declared.WorldState.{WorldState}
 use Rattle.lamp_line.specs.declared.Cabinet.{Cabinet}
 use Rattle.lamp_line.specs.Tables.{Line}
+use Rattle.job_layout.specs.declared.Sizes.{Sizes}
 use Rattle.job_file.specs.Reading.{readingOf}
 use Rattle.lamp_walk.specs.WalkAnswers.{walkAnswer}
 use Rattle.line_run.specs.RunAnswers.{runAnswer}
 use Rattle.plan_check.specs.CheckAnswers.{Lent}
 use Rattle.cabinet.specs.CabinetAnswers.{beginAnswer, actionAnswer, reportAnswer}
-use Rattle.answer_words.specs.AnswerWords.{answerWord, refusedCode, readWord, walkWord, runWord, CheckedWord, CheckedUpToWord, beginWord, actionWord, reportWord, ReplayedWord}
+use Rattle.cell_filling.specs.FillAnswers.{fillAnswer}
+use Rattle.answer_words.specs.AnswerWords.{answerWord, refusedCode, readWord, walkWord, runWord, CheckedWord, CheckedUpToWord, beginWord, actionWord, reportWord, ReplayedWord, fillWord}
 
 -- ---- the fields, as the header extracts them
 
@@ -62,3 +64,4 @@ pub record RefusalsShown : Type 0 where
   pub of-action : (s : List ℕ) (m : Cabinet) → RefusalShown (actionWord (actionAnswer s m))
   pub of-report : (s : List ℕ) (m : Cabinet) (result : ℕ) → RefusalShown (reportWord (reportAnswer s m result))
   pub of-replay : (s log : List ℕ) (n : ℕ) → ReplayedWord s log n → RefusalShown n
+  pub of-fill : (s : List ℕ) (n : Sizes) (size : ℕ) → RefusalShown (fillWord (fillAnswer s n size))

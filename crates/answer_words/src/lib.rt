@@ -2,10 +2,11 @@
 // exported functions in the crate above.
 ghost use mathlib.Core.Path.{_≡_};
 ghost use Rattle.answer_words.specs.AnswerWords.{answerWord, refusedWord, readWord, endingCode, walkWord, runWord};
-ghost use Rattle.answer_words.specs.AnswerWords.{failedWord, checkWord, shortWord, cabinetWord, beginWord, actionWord, reportWord, replayWord};
+ghost use Rattle.answer_words.specs.AnswerWords.{failedWord, checkWord, shortWord, cabinetWord, beginWord, actionWord, reportWord, replayWord, fillWord};
 use cabinet::ActionAnswer;
 use cabinet::BeginAnswer;
 use cabinet::ReportAnswer;
+use cell_filling::FillAnswer;
 use job_file::Reading;
 use lamp_line::Cabinet;
 use lamp_line::Ending;
@@ -167,5 +168,14 @@ pub fn replay_word(answer: ReplayAnswer) -> u64
         ReplayAnswer::Possible => answer_word(0, GOAL, 0, 0, 0),
         ReplayAnswer::ImpossibleAt(place) => answer_word(0, IMPOSSIBLE, 0, 0, place as u32),
         ReplayAnswer::Refused(number) => refused_word(number),
+    }
+}
+
+pub fn fill_word(answer: FillAnswer) -> u64
+    ensures { λ r. ⌜ r ≡ fillWord answer ⌝ }
+{
+    match answer {
+        FillAnswer::Filled => answer_word(0, GOAL, 0, 0, 0),
+        FillAnswer::Refused(number) => refused_word(number),
     }
 }

@@ -6,13 +6,14 @@ use Prim.Native.Nat.{ℕ}
 use Rattle.lamp_line.specs.declared.Cabinet.{Cabinet}
 use Rattle.lamp_line.specs.Tables.{programState, endKinds, columns}
 use Rattle.lamp_line.specs.Refusals.{refusal, answerBy, some-below}
-use Rattle.job_layout.specs.FileRefusals.{numberWrong, placeWrong, lengthWrong}
+use Rattle.lamp_line.specs.Lists.{blocks}
+use Rattle.job_layout.specs.FileRefusals.{rangesWrong, numberWrong, placeWrong, lengthWrong}
 use Rattle.cabinet.specs.declared.BeginAnswer.the-variants as begin
 use Rattle.cabinet.specs.declared.ActionAnswer.the-variants as action
 use Rattle.cabinet.specs.declared.ReportAnswer.the-variants as report
 use Rattle.cabinet.specs.CabinetAnswers.{beginAnswer, actionAnswer, reportAnswer}
 use Rattle.cabinet.specs.Calls.{Call, action-call, report-call, leftBy}
-use Rattle.bench_line.specs.BenchJobs.{each, planBytes, benchJob, G}
+use Rattle.bench_line.specs.BenchJobs.{planBytes, benchJob, G}
 
 abbrev at : ℕ → ℕ → Cabinet
 at state lamps = record { state = programState state; lamps = lamps }
@@ -37,7 +38,7 @@ pub record BenchCabinet : Type 0 where
   pub ended-then : actionAnswer G (at 4 0) ≡ action.Ended
 
 pub bench-cabinet : BenchCabinet
-unfolding each planBytes benchJob G endKinds columns refusal answerBy some-below numberWrong placeWrong lengthWrong beginAnswer actionAnswer reportAnswer leftBy
+unfolding blocks planBytes benchJob G endKinds columns refusal answerBy some-below rangesWrong numberWrong placeWrong lengthWrong beginAnswer actionAnswer reportAnswer leftBy
 bench-cabinet =
     record {
       begun = refl;

@@ -12,10 +12,11 @@ use Rattle.check_laws.specs.inner.Search.{met, tried, labelsFrom, placesFrom, v
 use Rattle.check_laws.proofs.VerdictRight.{verdict-right}
 use Rattle.job_layout.specs.Layout.{head}
 use Rattle.job_layout.specs.JobTables.{tablesOf}
-use Rattle.job_layout.specs.FileRefusals.{numberWrong, placeWrong, lengthWrong}
+use Rattle.lamp_line.specs.Lists.{blocks}
+use Rattle.job_layout.specs.FileRefusals.{rangesWrong, numberWrong, placeWrong, lengthWrong}
 use Rattle.job_file.specs.Reading.{readingOf, Opened}
 use Rattle.job_tables.proofs.Ranges.{well-formed}
-use Rattle.bench_line.specs.BenchJobs.{each, planBytes, benchJob, G, G-unflagged, G-circling, G-no-branch, G-final, G-test-first, G-five}
+use Rattle.bench_line.specs.BenchJobs.{planBytes, benchJob, G, G-unflagged, G-circling, G-no-branch, G-final, G-test-first, G-five}
 use Rattle.bench_line.specs.BenchPromises.{Judged, BenchLine}
 
 -- For a file that is not refused, the verdict of the search's definition is right.
@@ -27,7 +28,7 @@ judged-by-search s v opened e =
     }
 
 pub bench-line : BenchLine
-unfolding each planBytes benchJob G G-unflagged G-circling G-no-branch G-final G-test-first G-five columns endKinds lampColumn refusal answerBy some-below numberWrong placeWrong lengthWrong readingOf act walk along ownSteps pairNumber pairOf fate endsFrom met tried labelsFrom placesFrom verdictOf
+unfolding blocks planBytes benchJob G G-unflagged G-circling G-no-branch G-final G-test-first G-five columns endKinds lampColumn refusal answerBy some-below rangesWrong numberWrong placeWrong lengthWrong readingOf act walk along ownSteps pairNumber pairOf fate endsFrom met tried labelsFrom placesFrom verdictOf
 bench-line =
     record {
       empty-line = refl;

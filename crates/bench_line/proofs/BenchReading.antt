@@ -7,9 +7,10 @@ use Prim.Native.Nat.{ℕ}
 use lib.ListN.{set, take}
 use Rattle.lamp_line.specs.Tables.{endKinds, columns}
 use Rattle.lamp_line.specs.Refusals.{refusal, some-below}
-use Rattle.job_layout.specs.FileRefusals.{numberWrong, placeWrong, lengthWrong}
+use Rattle.lamp_line.specs.Lists.{blocks}
+use Rattle.job_layout.specs.FileRefusals.{rangesWrong, numberWrong, placeWrong, lengthWrong}
 use Rattle.job_file.specs.Reading.{fileRefusals}
-use Rattle.bench_line.specs.BenchJobs.{each, planBytes, benchJob, G}
+use Rattle.bench_line.specs.BenchJobs.{planBytes, benchJob, G}
 
 abbrev refused : List ℕ → Option ℕ
 refused file = refusal (fileRefusals file)
@@ -33,7 +34,7 @@ pub record BenchReading : Type 0 where
   pub ten-before-eleven : refused (set (set G 117 5) 125 4) ≡ some 10
 
 pub bench-reading : BenchReading
-unfolding each planBytes benchJob G endKinds columns refusal some-below numberWrong placeWrong lengthWrong
+unfolding blocks planBytes benchJob G endKinds columns refusal some-below rangesWrong numberWrong placeWrong lengthWrong
 bench-reading =
     record {
       not-refused = refl;

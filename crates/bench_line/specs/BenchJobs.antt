@@ -1,14 +1,10 @@
 -- The bytes of the job file of bench line G (01, "Bench line G"), and of its variants with another first program state or another plan.
 use mathlib.Core.Bool.{cond, _&&_, _||_}
 use mathlib.Core.List.{List, [], _∷_, _++_}
-use Prim.Native.Nat.{ℕ, zero, suc, _*_, _-_, _/_, _%_}
+use Prim.Native.Nat.{ℕ, _*_, _-_, _/_, _%_}
 use lib.Dec.{eqb}
 use lib.ListN.{length}
-
--- The lists f 0, f 1, up to f (n - 1), one after the other.
-unfoldable pub each : ℕ → (ℕ → List ℕ) → List ℕ
-each zero f = []
-each (suc n) f = each n f ++ f n
+use Rattle.lamp_line.specs.Lists.{blocks}
 
 -- ---- the cells: world 0 is clear, in 1 the lamp is flagged, 2 is spoilt; column 0 is the line's end, 1 a sound lamp, 2 a faulty one
 
@@ -38,7 +34,7 @@ flag world column = cond (eqb column 0 || eqb world 1) notLegal (legal (cond (eq
 
 -- An action's cells: for each world, its cell at each column.
 abbrev cellsOf : (ℕ → ℕ → List ℕ) → List ℕ
-cellsOf action = each 3 (λ world. each 3 (action world))
+cellsOf action = blocks 3 (λ world. blocks 3 (action world))
 
 -- ---- the file
 

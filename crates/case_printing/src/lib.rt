@@ -32,11 +32,11 @@ pub fn print_refused(number: u8) {
     print_counted(b" refused", number as u64);
 }
 
-// The kinds of a line's lamps.
-fn print_kinds(line: &[u8]) {
+// Each of the bytes as a number.
+pub fn print_bytes(bytes: &[u8]) {
     let mut i = 0;
-    while i < line.len() {
-        print_number(line[i] as u64);
+    while i < bytes.len() {
+        print_number(bytes[i] as u64);
         i += 1;
     }
 }
@@ -44,7 +44,7 @@ fn print_kinds(line: &[u8]) {
 // The kinds of the lamps at the front of a buffer; nothing if the buffer is shorter than the line.
 fn print_front(lamps: usize, buffer: &[u8]) {
     if lamps <= buffer.len() {
-        print_kinds(&buffer[..lamps]);
+        print_bytes(&buffer[..lamps]);
     }
 }
 

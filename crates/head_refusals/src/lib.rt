@@ -1,17 +1,19 @@
 // Refusals 2, 3 and 4: the numbers of the head, the places of the parts and their lengths.
 //
-// These functions are for the reader in the crate above and not for users: `number_wrong` asks for a file that is long enough to
-// have a head, which refusal 1 tests.
+// These functions are for the reader in the crate above, and `ranges_wrong` for the test of rules files too; they are not for users:
+// `number_wrong` asks for a file that is long enough to have a head, which refusal 1 tests.
 ghost use mathlib.Core.Path.{_≡_};
 ghost use Prim.Native.Nat.{_≤_};
 ghost use lib.ListN.{length};
-ghost use Rattle.job_layout.specs.FileRefusals.{outside, numberWrong, endOf, misplaced, placeWrong, differs, lengthWrong};
+ghost use Rattle.job_layout.specs.FileRefusals.{outside, rangesWrong, numberWrong, endOf, misplaced, placeWrong, differs, lengthWrong};
 use job_layout::Job;
 use job_layout::Part;
+use job_layout::Sizes;
 use job_layout::places::cell_count;
-use job_layout::places::column_count;
 use job_layout::places::goal_count;
 use job_layout::places::plan_length;
+use job_layout::places::sizes_of;
+use job_layout::places::width;
 
 fn is_outside(low: u8, high: u8, n: u8) -> bool
     ensures { λ r. ⌜ r ≡ outside low high n ⌝ }
@@ -19,18 +21,26 @@ fn is_outside(low: u8, high: u8, n: u8) -> bool
     (n < low) | (high < n)
 }
 
+// One of A, W, C, R and E is out of its range.
+pub fn ranges_wrong(sizes: Sizes) -> bool
+    ensures { λ r. ⌜ r ≡ rangesWrong sizes ⌝ }
+{
+    is_outside(1, 16, sizes.actions)
+        | is_outside(1, 64, sizes.worlds)
+        | is_outside(1, 15, sizes.kinds)
+        | is_outside(1, 8, sizes.results)
+        | (sizes.end_kinds < 1)
+        | (16 < width(sizes))
+}
+
 // Refusal 2 applies.
 pub fn number_wrong(file: &[u8], job: Job) -> bool
     requires { ⌜ 28 ≤ length (now file) ⌝ }
     ensures { λ r. ⌜ r ≡ numberWrong (now (file .entry)) job ⌝ }
 {
-    is_outside(1, 16, job.actions)
-        | is_outside(1, 64, job.worlds)
-        | is_outside(1, 15, job.kinds)
-        | is_outside(1, 8, job.results)
+    ranges_wrong(sizes_of(job))
         | is_outside(0, 64, job.states)
         | is_outside(0, job.states, job.first.0)
-        | (16 < column_count(job))
         | is_outside(0, 0, file[7])
 }
 

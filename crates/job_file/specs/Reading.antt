@@ -25,7 +25,7 @@ refusals s j =
     (11 when targetWrong s j) ∷
     []
 
--- The refusals of a file. Every operation tests them before its own.
+-- The refusals of a file. Every operation that takes one tests them before its own.
 abbrev pub fileRefusals : List ℕ → List Refusal
 fileRefusals s = refusals s (head s)
 

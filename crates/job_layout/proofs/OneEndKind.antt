@@ -1,7 +1,7 @@
 -- A file in which byte 6 is 0 is as before request (c).
 use mathlib.Core.Path.{_≡_, refl, ap, _∙_}
 use mathlib.Core.Logic.{_↔_, inl, inr, ⊎-elim}
-use mathlib.Core.Bool.{Bool, true, false, _||_, _&&_, or-true}
+use mathlib.Core.Bool.{Bool, true, false, _||_, _&&_, or-true, or-false}
 use mathlib.Core.List.{List, [], _∷_, _++_}
 use Prim.Native.Nat.{ℕ, _+_, _*_, _<_}
 use native.Mathlib.Decide.{decLt}
@@ -15,7 +15,7 @@ use Rattle.lamp_line.specs.Tables.{endKinds, lampColumn, columns, columnOf}
 use Rattle.lamp_line.specs.Refusals.{some-below}
 use Rattle.lamp_line.specs.Check.{rank}
 use Rattle.job_layout.specs.Layout.{byte, head, markPlace}
-use Rattle.job_layout.specs.FileRefusals.{outside, numberWrong, differs, legalAtEnd}
+use Rattle.job_layout.specs.FileRefusals.{outside, rangesWrong, numberWrong, differs, legalAtEnd}
 use Rattle.job_layout.specs.OneEndKind.{columnBefore, OneEndKindAsBefore}
 
 -- There is one column more than there are kinds.
@@ -31,16 +31,16 @@ column-before ends none (kind ∷ lamps) = omega arith
 
 -- ---- refusal 2
 
--- More than 16 columns are more than 15 kinds.
-kinds-decide : (ends kinds six : ℕ) → ends ≡ 0 → six ≡ 0 → (a b c d : Bool) →
-    (a || outside 1 15 kinds || b || c || d || ltb 16 (columns ends kinds)) ≡ (a || outside 1 15 kinds || b || c || d || outside 0 0 six)
-kinds-decide ends kinds six none is a b c d = by (decLt 15 kinds)
+-- Where there is one kind of end, more than 16 columns are more than 15 kinds.
+kinds-decide : (ends kinds six : ℕ) → ends ≡ 1 → six ≡ 0 → (a b c d : Bool) →
+    (a || outside 1 15 kinds || b || ltb ends 1 || ltb 16 (ends + kinds) || c || d) ≡ (a || outside 1 15 kinds || b || c || d || outside 0 0 six)
+kinds-decide ends kinds six one is a b c d = by (decLt 15 kinds)
   where
     by : Dec (15 < kinds) →
-        (a || outside 1 15 kinds || b || c || d || ltb 16 (columns ends kinds)) ≡ (a || outside 1 15 kinds || b || c || d || outside 0 0 six)
+        (a || outside 1 15 kinds || b || ltb ends 1 || ltb 16 (ends + kinds) || c || d)
+        ≡ (a || outside 1 15 kinds || b || c || d || outside 0 0 six)
     by (yes many) = rw (lt-ltb 15 kinds many, or-true (ltb kinds 1), or-true a)
-    by (no few) =
-        rw (columns-before ends kinds none, le-ltb 16 (kinds + 1) (omega arith), is)
+    by (no few) = rw (le-ltb ends 1 (omega arith), le-ltb 16 (ends + kinds) (omega arith), is) (simp or-false)
 
 -- ---- refusal 7
 
@@ -82,7 +82,7 @@ order-before start start′ lamps lamps′ = (
 -- ---- the file
 
 pub one-end-kind-as-before : OneEndKindAsBefore
-unfolding endKinds rank numberWrong
+unfolding endKinds rank rangesWrong numberWrong
 one-end-kind-as-before s none =
     let count : columns (head s .ends) (head s .kinds) ≡ head s .kinds + 1 = columns-before (byte s 6) (head s .kinds) none in
     record {
@@ -94,7 +94,7 @@ one-end-kind-as-before s none =
       goal-place = λ w c. rw count;
       refusal-2 =
           ap (λ (b : Bool). b || outside 0 0 (byte s 7))
-          (kinds-decide (byte s 6) (head s .kinds) (byte s 6) none none (outside 1 16 (head s .actions) || outside 1 64 (head s .worlds))
+          (kinds-decide (byte s 6 + 1) (head s .kinds) (byte s 6) (omega arith) none (outside 1 16 (head s .actions) || outside 1 64 (head s .worlds))
           (outside 1 8 (head s .results)) (outside 0 64 (head s .states)) (outside 0 (head s .states) (head s .first .0)));
       refusal-7 = λ a.
           ap (λ (b : Bool). eqb (byte s (markPlace (head s) a)) 1 && b)

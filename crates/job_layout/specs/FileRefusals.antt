@@ -1,15 +1,16 @@
 -- Refusals 1 to 11 (01, "Who can cause which number"; 02, (c), for 2 and 7): eleven conditions on the bytes of a file, each stated for a file s
--- and its head j.
+-- and its head j, but for `rangesWrong`, which is about its numbers alone.
 use mathlib.Core.Bool.{Bool, _||_, _&&_, not}
 use mathlib.Core.List.{List}
 use Prim.Native.Nat.{ℕ, _+_, _*_}
 use lib.Dec.{eqb, leb, ltb}
 use lib.ListN.{length}
-use Rattle.lamp_line.specs.Tables.{programState, worldState, endKinds, columns}
+use Rattle.lamp_line.specs.Tables.{programState, worldState, endKinds}
 use Rattle.lamp_line.specs.Refusals.{some-below}
 use Rattle.job_layout.specs.declared.Part.{Part}
 use Rattle.job_layout.specs.declared.Job.{Job}
-use Rattle.job_layout.specs.Layout.{byte, marksLength, cellCount, cellsLength, startsLength, goalLength, planLength, markPlace, resultPlace, actionPlace}
+use Rattle.job_layout.specs.declared.Sizes.{Sizes}
+use Rattle.job_layout.specs.Layout.{byte, sizesOf, width, marksLength, cellCount, cellsLength, startsLength, goalLength, planLength, markPlace, resultPlace, actionPlace}
 
 -- ---- 1: the file is shorter than a head, or longer than 65,535 bytes
 
@@ -22,11 +23,15 @@ sizeWrong s = ltb (length s) 28 || ltb 65535 (length s)
 abbrev pub outside : ℕ → ℕ → ℕ → Bool
 outside low high n = ltb n low || ltb high n
 
+-- One of A, W, C and R is out of its range, there is no kind of end, or there are more than 16 columns. Refusal 22 of 02, (e), tests this too.
+unfoldable pub rangesWrong : Sizes → Bool
+rangesWrong n =
+    outside 1 16 (n .actions) || outside 1 64 (n .worlds) || outside 1 15 (n .kinds) || outside 1 8 (n .results)
+    || ltb (n .«end_kinds») 1 || ltb 16 (width n)
+
 unfoldable pub numberWrong : List ℕ → Job → Bool
 numberWrong s j =
-    outside 1 16 (j .actions) || outside 1 64 (j .worlds) || outside 1 15 (j .kinds) || outside 1 8 (j .results)
-    || outside 0 64 (j .states) || outside 0 (j .states) (j .first .0)
-    || ltb 16 (columns (j .ends) (j .kinds)) || outside 0 0 (byte s 7)
+    rangesWrong (sizesOf j) || outside 0 64 (j .states) || outside 0 (j .states) (j .first .0) || outside 0 0 (byte s 7)
 
 -- ---- 3: a part is not where it may be
 

@@ -6,9 +6,10 @@ use lib.ListN.{getD}
 use Rattle.plans.specs.Plan.{Action, Result}
 use Rattle.lamp_line.specs.declared.ProgramState.{ProgramState}
 use Rattle.lamp_line.specs.declared.WorldState.{WorldState}
-use Rattle.lamp_line.specs.Tables.{programState, columns}
+use Rattle.lamp_line.specs.Tables.{programState, endKinds, columns}
 use Rattle.job_layout.specs.declared.Part.{Part}
 use Rattle.job_layout.specs.declared.Job.{Job}
+use Rattle.job_layout.specs.declared.Sizes.{Sizes}
 
 -- Byte i of the file, or 0 where the file has none.
 abbrev pub byte : List ℕ → ℕ → ℕ
@@ -39,6 +40,21 @@ head s =
       goal = part s 20;
       plan = part s 24;
     }
+
+-- The numbers A, W, C, R and E of a job.
+abbrev pub sizesOf : Job → Sizes
+sizesOf j =
+    record {
+      actions = j .actions;
+      worlds = j .worlds;
+      kinds = j .kinds;
+      results = j .results;
+      «end_kinds» = endKinds (j .ends);
+    }
+
+-- 02, (c): there are E + C columns.
+abbrev pub width : Sizes → ℕ
+width n = n .«end_kinds» + n .kinds
 
 -- ---- the length that each part must have
 

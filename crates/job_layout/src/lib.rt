@@ -4,6 +4,16 @@ use lamp_line::ProgramState;
 pub mod head;
 pub mod places;
 
+// How many actions, world states, kinds of lamps, results and kinds of ends there are: A, W, C, R and E. Byte 6 of a file is E less one, so that E
+// may need nine bits.
+pub struct Sizes {
+    pub actions: u8,
+    pub worlds: u8,
+    pub kinds: u8,
+    pub results: u8,
+    pub end_kinds: u16,
+}
+
 // A part of the file: where it begins, and how many bytes it has.
 pub struct Part {
     pub offset: u16,

@@ -2,10 +2,31 @@
 ghost use mathlib.Core.Path.{_≡_};
 ghost use Prim.Native.Nat.{_≤_};
 ghost use Rattle.lamp_line.specs.Tables.{lampColumn, columns};
-ghost use Rattle.job_layout.specs.Layout.{cellCount, goalLength, planLength, markPlace, nextPlace, startPlace, goalPlace, actionPlace};
+ghost use Rattle.job_layout.specs.Layout.{sizesOf, width, cellCount, goalLength, planLength, markPlace, nextPlace, startPlace, goalPlace, actionPlace};
 use crate::Job;
+use crate::Sizes;
 use lamp_line::ProgramState;
 use lamp_line::WorldState;
+
+// The numbers A, W, C, R and E of a job.
+pub fn sizes_of(job: Job) -> Sizes
+    ensures { λ r. ⌜ r ≡ sizesOf job ⌝ }
+{
+    Sizes {
+        actions: job.actions,
+        worlds: job.worlds,
+        kinds: job.kinds,
+        results: job.results,
+        end_kinds: job.ends as u16 + 1,
+    }
+}
+
+// How many columns tables of these sizes have.
+pub fn width(sizes: Sizes) -> usize
+    ensures { λ r. ⌜ r ≡ width sizes ⌝ }
+{
+    sizes.end_kinds as usize + sizes.kinds as usize
+}
 
 // How many columns the tables have: one for each kind of end and one for each kind of lamp.
 pub fn column_count(job: Job) -> u16

@@ -46,6 +46,12 @@ module _ {p : ℕ → Bool} {n i : ℕ} (before : NoneYet p n i) where
   pub scan-ends : n ≤ i → false ≡ some-below n p
   scan-ends n≤i = let i≡n : i ≡ n = omega arith in sym (rw i≡n at (before .none))
 
+-- Where no number below n has the property, the answer is false.
+pub none-below : (p : ℕ → Bool) (n : ℕ) → ((i : ℕ) → i < n → p i ≡ false) → some-below n p ≡ false
+unfolding some-below
+none-below p zero none = refl
+none-below p (suc n) none = rw (none n (omega arith)) (none-below p n (λ i i<. none i (omega arith)))
+
 -- What a false answer says of each number below n.
 pub none-at : (p : ℕ → Bool) (n : ℕ) → some-below n p ≡ false → (i : ℕ) → i < n → p i ≡ false
 none-at p n none i i<n = by (p i) refl

@@ -1,9 +1,9 @@
--- Notions of lists that the definitions of 01 need: membership, no element twice, how many values have a property, and the order by
--- the first difference.
+-- Notions of lists that the definitions of 01 need: membership, no element twice, how many values have a property, the order by the
+-- first difference, and lists one after the other.
 use mathlib.Core.Path.{_≡_}
 use mathlib.Core.Logic.{_⊎_, _↔_}
-use mathlib.Core.List.{List, [], _∷_}
-use Prim.Native.Nat.{ℕ, _<_}
+use mathlib.Core.List.{List, [], _∷_, _++_}
+use Prim.Native.Nat.{ℕ, zero, suc, _<_}
 use lib.ListN.{length}
 
 -- x is an element of the list.
@@ -30,3 +30,8 @@ unfoldable pub _≼_ : List ℕ → List ℕ → Type 0
 [] ≼ m = Unit {0}
 (a ∷ l) ≼ [] = ⊥
 (a ∷ l) ≼ (b ∷ m) = (a < b) ⊎ ((a ≡ b) × (l ≼ m))
+
+-- n lists of numbers, one after the other: block 0, block 1 and so on.
+unfoldable pub blocks : ℕ → (ℕ → List ℕ) → List ℕ
+blocks zero block = []
+blocks (suc n) block = blocks n block ++ block n

@@ -2,16 +2,19 @@
 // the operation that it is named after, and answers what it answers as one number. They are called raw because the pointer of a slice
 // must not be NULL. C programs call the functions of include/nessflurry.h, which replace a NULL that has no elements by another pointer.
 ghost use mathlib.Core.Path.{_≡_};
+ghost use lib.ListN.{length};
 ghost use Rattle.lamp_line.specs.Tables.{programState, worldState, lineOf};
 ghost use Rattle.job_file.specs.Reading.{readingOf};
 ghost use Rattle.lamp_walk.specs.WalkAnswers.{walkAnswer};
 ghost use Rattle.line_run.specs.RunAnswers.{runAnswer};
 ghost use Rattle.cabinet.specs.CabinetAnswers.{beginAnswer, actionAnswer, reportAnswer};
-ghost use Rattle.answer_words.specs.AnswerWords.{readWord, headNumbers, headAfter, walkWord, runWord, CheckedWord, CheckedUpToWord, beginWord, actionWord, reportWord, ReplayedWord};
+ghost use Rattle.cell_filling.specs.FillAnswers.{fillAnswer, partAfter};
+ghost use Rattle.answer_words.specs.AnswerWords.{readWord, headNumbers, headAfter, walkWord, runWord, CheckedWord, CheckedUpToWord, beginWord, actionWord, reportWord, ReplayedWord, fillWord};
 ghost use Rattle.nessflurry_c.specs.Version.{version};
 use answer_words::action_word;
 use answer_words::begin_word;
 use answer_words::check_word;
+use answer_words::fill_word;
 use answer_words::read_word;
 use answer_words::replay_word;
 use answer_words::report_word;
@@ -21,9 +24,11 @@ use answer_words::walk_word;
 use cabinet::begin;
 use cabinet::next_action;
 use cabinet::report;
+use cell_filling::fill_cells;
 use job_file::Reading;
 use job_file::read_job;
 use job_layout::Job;
+use job_layout::Sizes;
 use lamp_line::Cabinet;
 use lamp_line::ProgramState;
 use lamp_line::WorldState;
@@ -174,4 +179,31 @@ pub extern "C" fn nessflurry_raw_replay(file: &[u8], log: &[u8]) -> u64
     ensures { λ r. ⌜ ReplayedWord (now (file .entry)) (now (log .entry)) r ⌝ }
 {
     replay_word(replay_log(file, log))
+}
+
+#[no_mangle]
+pub extern "C" fn nessflurry_raw_fill_cells(
+    rules: &[u8],
+    actions: u8,
+    worlds: u8,
+    kinds: u8,
+    results: u8,
+    end_kinds: u8,
+    part: &mut [u8],
+) -> u64
+    ensures { λ r. ⌜ r ≡ fillWord (fillAnswer (now (rules .entry))
+        (record { actions = actions; worlds = worlds; kinds = kinds; results = results; «end_kinds» = «end_kinds» }) (length (now (part .entry)))) ⌝ }
+    ensures { λ _. ⌜ now (part .exit) ≡ partAfter (fillAnswer (now (rules .entry))
+        (record { actions = actions; worlds = worlds; kinds = kinds; results = results; «end_kinds» = «end_kinds» }) (length (now (part .entry))))
+        (now (rules .entry)) (record { actions = actions; worlds = worlds; kinds = kinds; results = results; «end_kinds» = «end_kinds» })
+        (now (part .entry)) ⌝ }
+{
+    let sizes = Sizes {
+        actions: actions,
+        worlds: worlds,
+        kinds: kinds,
+        results: results,
+        end_kinds: end_kinds as u16,
+    };
+    fill_word(fill_cells(rules, sizes, part))
 }

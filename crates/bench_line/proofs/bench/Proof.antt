@@ -1,11 +1,12 @@
 -- The definition's bytes, computed, are these.
 use mathlib.Core.Path.{refl}
-use Rattle.bench_line.specs.BenchJobs.{each, planBytes, benchJob, G}
+use Rattle.lamp_line.specs.Lists.{blocks}
+use Rattle.bench_line.specs.BenchJobs.{planBytes, benchJob, G}
 use Rattle.bench_line.proofs.bench.Statement.{statement}
 use Rattle.bench_line.proofs.bench.Tie as tie
 
 returns : tie.Need-returns
-unfolding each planBytes benchJob G
+unfolding blocks planBytes benchJob G
 returns c = (refl, refl)
 
 pub bench-spec : {M : Type 1} → statement M

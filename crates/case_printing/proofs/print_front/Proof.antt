@@ -5,13 +5,13 @@ use lib.Seq.{length-take-le}
 use Rattle.case_printing.proofs.print_front.Statement.{statement}
 use Rattle.case_printing.proofs.print_front.Tie as tie
 
-slice-aggregate-print-kinds : tie.Need-slice-aggregate-print-kinds
-slice-aggregate-print-kinds c =
+slice-aggregate-print-bytes : tie.Need-slice-aggregate-print-bytes
+slice-aggregate-print-bytes c =
     let a = c .before .before .before .args in
     sym (length-take-le (a .lamps) (a .buffer .now) (c .before .if1 .taken))
 
-print-kinds-requires : tie.Need-print-kinds-requires
-print-kinds-requires c κs = search needs
+print-bytes-requires : tie.Need-print-bytes-requires
+print-bytes-requires c κs = search needs
 
 returns : tie.Need-returns
 returns c = search needs
@@ -20,4 +20,4 @@ returns-2 : tie.Need-returns-2
 returns-2 c = search needs
 
 pub print-front-spec : {M : Type 1} → statement M
-print-front-spec = tie.close (tie.spec slice-aggregate-print-kinds print-kinds-requires returns returns-2)
+print-front-spec = tie.close (tie.spec slice-aggregate-print-bytes print-bytes-requires returns returns-2)

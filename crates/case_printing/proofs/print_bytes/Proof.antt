@@ -1,16 +1,16 @@
--- Each kind is a byte of the line; the measure is the number of lamps left.
+-- Each number is a byte; the measure is the number of bytes left.
 use borrow.Author.Needs.{needs}
 use Prim.Native.Nat.{_≤_, _-_}
 use lib.ListN.{length}
 use native.Mathlib.Omega.{arith}
-use Rattle.case_printing.proofs.print_kinds.Statement.{statement}
-use Rattle.case_printing.proofs.print_kinds.Tie as tie
+use Rattle.case_printing.proofs.print_bytes.Statement.{statement}
+use Rattle.case_printing.proofs.print_bytes.Tie as tie
 
 abbrev Inv-loop : tie.InvT-loop
-Inv-loop line i₀ i = i ≤ length line
+Inv-loop bytes i₀ i = i ≤ length bytes
 
 abbrev μ-loop : tie.MeasureT-loop
-μ-loop line i₀ i = length line - i
+μ-loop bytes i₀ i = length bytes - i
 
 loop-holds : tie.Need-loop-holds Inv-loop μ-loop
 loop-holds c = search needs
@@ -36,8 +36,8 @@ loop-again c = search needs
 returns : tie.Need-returns Inv-loop μ-loop
 returns c = search needs
 
-pub print-kinds-spec : {M : Type 1} → statement M
-print-kinds-spec =
+pub print-bytes-spec : {M : Type 1} → statement M
+print-bytes-spec =
     tie.close
     (tie.spec
     Inv-loop

@@ -1,0 +1,3 @@
+pub mod FillTests
+pub mod JobsByRules
+pub mod WholePart

@@ -1,0 +1,2 @@
+pub mod FillAnswers
+pub mod RulesInJobs

@@ -1,0 +1,5 @@
+pub mod Blocks
+pub mod Examples
+pub mod NewWorlds
+pub mod Pairs
+pub mod WorldNumbers

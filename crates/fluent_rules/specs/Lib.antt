@@ -1,0 +1,3 @@
+pub mod CellRules
+pub mod CellsPart
+pub mod Fluents

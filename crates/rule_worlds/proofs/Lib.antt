@@ -1,0 +1,3 @@
+pub mod NewNumber
+pub mod NewValues
+pub mod WorldDigits

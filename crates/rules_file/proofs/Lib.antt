@@ -1,0 +1,3 @@
+pub mod CountsProduct
+pub mod RuleBytes
+pub mod RulesTested

@@ -1,0 +1,4 @@
+pub mod CellWrites
+pub mod Columns
+pub mod RuleApplied
+pub mod RulesApplied
