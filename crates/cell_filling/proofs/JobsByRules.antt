@@ -46,11 +46,11 @@ cell-in-part : (n : Sizes) (cell : ℕ → ℕ → ℕ → List ℕ) → ((a w c
 cell-in-part n cell two a w c b a< w< c< b< =
     let row-long : (a w : ℕ) → length (blocks (width n) (λ c. cell a w c)) ≡ width n * 2 = λ a w. blocks-length 2 (λ c. cell a w c) (two a w) (width n) in
     let rows-long : (a : ℕ) → length (blocks (n .worlds) (λ w. blocks (width n) (λ c. cell a w c))) ≡ n .worlds * (width n * 2)
-        = λ a. blocks-length (width n * 2) (λ w. blocks (width n) (λ c. cell a w c)) (row-long a) (n .worlds) in
+    = λ a. blocks-length (width n * 2) (λ w. blocks (width n) (λ c. cell a w c)) (row-long a) (n .worlds) in
     let in-cell = digits-lt {q = c} {m = width n} {r = b} {c = 2} c< b< in
     let in-row = digits-lt {q = w} {m = n .worlds} {r = c * 2 + b} {c = width n * 2} w< in-cell in
     let at : 2 * cellNumber n a w c + b ≡ a * (n .worlds * (width n * 2)) + (w * (width n * 2) + (c * 2 + b))
-        = omega (arith, places-equal (n .worlds) (width n) a w c) in
+    = omega (arith, places-equal (n .worlds) (width n) a w c) in
     rw at
     (in-block (n .worlds * (width n * 2)) _ rows-long (n .actions) a (w * (width n * 2) + (c * 2 + b)) a< in-row
     ∙ in-block (width n * 2) _ (row-long a) (n .worlds) w (c * 2 + b) w< in-cell
@@ -159,7 +159,7 @@ module _ (rules s before after : List ℕ) (filled : CellsFilled rules (sizesOf 
       let row< = div-lt-iff-lt-mul {k = width} {x = i} {y = head s .actions * head s .worlds} (omega arith) .1 i< in
       let a< = div-lt-iff-lt-mul {k = head s .worlds} {x = row} {y = head s .actions} (omega arith) .1 row< in
       let number : (a * head s .worlds + w) * width + c ≡ i =
-          rw (div-add-mod' row (head s .worlds)) (div-add-mod' i width) in
+      rw (div-add-mod' row (head s .worlds)) (div-add-mod' i width) in
       let next = rw number at (byte-is a w c 0 a< w< c< (omega arith)) in
       let result = rw number at (byte-is a w c 1 a< w< c< (omega arith)) in
       let place : head s .cells .offset + 2 * i + 0 ≡ head s .cells .offset + 2 * i = omega arith in
@@ -172,8 +172,11 @@ module _ (rules s before after : List ℕ) (filled : CellsFilled rules (sizesOf 
         cells = λ a w c a< w< c<.
             let place : nextPlace (head s) a w c + 0 ≡ nextPlace (head s) a w c = omega arith in
             rw (
-              lt-ltb a (head s .actions) a<, lt-ltb (w .0) (head s .worlds) w<, lt-ltb c (columns (head s .ends) (head s .kinds)) c<,
-              rw place at (byte-is a (w .0) c 0 a< w< c< (omega arith)), byte-is a (w .0) c 1 a< w< c< (omega arith),
+              lt-ltb a (head s .actions) a<,
+              lt-ltb (w .0) (head s .worlds) w<,
+              lt-ltb c (columns (head s .ends) (head s .kinds)) c<,
+              rw place at (byte-is a (w .0) c 0 a< w< c< (omega arith)),
+              byte-is a (w .0) c 1 a< w< c< (omega arith),
             )
             (read-back (sizes .worlds .0) (sizes .results .1) (cell a (w .0) c) (range a (w .0) c w<));
       }

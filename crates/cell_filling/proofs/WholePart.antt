@@ -44,12 +44,12 @@ pub cells-are : (n : Sizes) (cell : ℕ → ℕ → ℕ → List ℕ) (l : List 
 cells-are n cell l long each =
     sym (take-all whole l (omega (arith, long, length-by-blocks)))
     ∙ blocks-are (n .actions) (n .worlds * (width n * 2)) _ l 0 (λ a a<.
-        blocks-are (n .worlds) (width n * 2) _ l (0 + a * (n .worlds * (width n * 2))) (λ w w<.
-            blocks-are (width n) 2 _ l (0 + a * (n .worlds * (width n * 2)) + w * (width n * 2)) (λ c c<.
-                let at : 0 + a * (n .worlds * (width n * 2)) + w * (width n * 2) + c * 2 ≡ 2 * cellNumber n a w c
-                    = omega (arith, places-equal (n .worlds) (width n) a w c) in
-                let in-row = cells-row-in n a w a< w< in
-                rw at (two-bytes l (2 * cellNumber n a w c) (omega (arith, long)) ∙ each a w c a< w< c<))))
+    blocks-are (n .worlds) (width n * 2) _ l (0 + a * (n .worlds * (width n * 2))) (λ w w<.
+    blocks-are (width n) 2 _ l (0 + a * (n .worlds * (width n * 2)) + w * (width n * 2)) (λ c c<.
+    let at : 0 + a * (n .worlds * (width n * 2)) + w * (width n * 2) + c * 2 ≡ 2 * cellNumber n a w c
+    = omega (arith, places-equal (n .worlds) (width n) a w c) in
+    let in-row = cells-row-in n a w a< w< in
+    rw at (two-bytes l (2 * cellNumber n a w c) (omega (arith, long)) ∙ each a w c a< w< c<))))
   where
     whole : ℕ
     whole = n .actions * (n .worlds * (width n * 2))

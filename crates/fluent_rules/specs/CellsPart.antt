@@ -16,9 +16,9 @@ cellBytes (outcome w r ∷ more) = w .0 ∷ r ∷ []
 unfoldable pub cellsPart : FluentRules → Sizes → List ℕ
 cellsPart rules n =
     blocks (n .actions) (λ a.
-        blocks (n .worlds) (λ w.
-            blocks (width n) (λ c.
-                cellBytes (ruleCell rules (n .«end_kinds») a (worldState w) c))))
+    blocks (n .worlds) (λ w.
+    blocks (width n) (λ c.
+    cellBytes (ruleCell rules (n .«end_kinds») a (worldState w) c))))
 
 -- How many bytes it has.
 abbrev pub partLength : Sizes → ℕ

@@ -41,8 +41,8 @@ module _ (s : List ℕ) (n : Sizes) (i world : ℕ) (before after : List ℕ) (f
     (ruled : Ruled (width n) (ruleAt s i .column))
     (wanted-here : not (some-pair unwanted (ruleAt s i .wanted) (valuesIn (valueCounts s) world)) ≡ true)
     (change : Claimed before after (rowStart n (ruleAt s i .action) world + firstColumn n (ruleAt s i .column))
-        (rowStart n (ruleAt s i .action) world + columnsEnd n (ruleAt s i .column))
-        (worldNumber (valueCounts s) (newValues (ruleAt s i .new) (valuesIn (valueCounts s) world))) (ruleAt s i .result)) where
+    (rowStart n (ruleAt s i .action) world + columnsEnd n (ruleAt s i .column))
+    (worldNumber (valueCounts s) (newValues (ruleAt s i .new) (valuesIn (valueCounts s) world))) (ruleAt s i .result)) where
   -- The cells of another row are as before.
   other-kept : (a w c : ℕ) → w < n .worlds → c < width n → ((ruleAt s i .action ≡ a) → (world ≡ w) → ⊥) →
       cellAt after (cellNumber n a w c) ≡ cellAt before (cellNumber n a w c)

@@ -23,9 +23,10 @@ fill-world-requires : tie.Need-fill-world-requires Inv-loop μ-loop
 fill-world-requires c κs =
     let at-loop = c .before .before in
     let start = at-loop .before .before .before .before .before .before .before in
-    let inv = at-loop .loop .inv in
-    (
-      start .pre .0, inv .long, omega arith,
+    let inv = at-loop .loop .inv in (
+      start .pre .0,
+      inv .long,
+      omega arith,
       λ a column a< column<. inv .not-legal a (at-loop .loop .w) column a< (omega arith) column< (omega arith),
     )
 

@@ -17,11 +17,10 @@ same-length : tie.Need-same-length
 same-length c = search needs
 
 returns : tie.Need-returns
-returns c =     let filled = c .before .before .before .fill-cells in
+returns c = let filled = c .before .before .before .fill-cells in
     let a = c .before .before .before .before .before .before .before .args in
     let n : Sizes =
-        record { actions = a .actions; worlds = a .worlds; kinds = a .kinds; results = a .results; «end_kinds» = a .end-kinds } in
-    (
+    record { actions = a .actions; worlds = a .worlds; kinds = a .kinds; results = a .results; «end_kinds» = a .end-kinds } in (
       c .fill-word .ensures ∙ ap fillWord (filled .ensures .answered),
       filled .ensures .part ∙ ap (λ r. partAfter r (a .rules .now) n (a .part .now)) (filled .ensures .answered),
     )

@@ -77,8 +77,12 @@ unfolding ruleWrong
 returns c =
     let read = c .before .before .before .before .before .before .before .before in
     rw (
-      c .before .before .column-wrong .ensures, c .before .values-wrong .ensures, c .values-wrong2 .ensures,
-      read .before .before .before .fluent-bytes .ensures, read .before .before .fluent-bytes2 .ensures, read .fluent-bytes3 .ensures,
+      c .before .before .column-wrong .ensures,
+      c .before .values-wrong .ensures,
+      c .values-wrong2 .ensures,
+      read .before .before .before .fluent-bytes .ensures,
+      read .before .before .fluent-bytes2 .ensures,
+      read .fluent-bytes3 .ensures,
     )
 
 pub rule-wrong-spec : {M : Type 1} → statement M

@@ -72,9 +72,10 @@ new-world-requires c κs =
     let wanted = new .before .before .before in
     let place = wanted .before in
     let start = place .before .before .before .before in
-    let asked = new-asked (this start) (place .rule-place .ensures) (c .fluent-bytes3 .ensures) (wanted-long wanted) (new .fluent-bytes2 .ensures) in
-    (
-      asked .0, asked .1, asked .2,
+    let asked = new-asked (this start) (place .rule-place .ensures) (c .fluent-bytes3 .ensures) (wanted-long wanted) (new .fluent-bytes2 .ensures) in (
+      asked .0,
+      asked .1,
+      asked .2,
       rw (c .fluent-bytes3 .ensures) (values-right (this start) (start .args .world .0) (start .pre .3) (start .pre .4)),
     )
 

@@ -39,10 +39,10 @@ slice-aggregate-world-values c = search needs
 world-values-requires : tie.Need-world-values-requires Inv-loop μ-loop
 world-values-requires c κs =
     let start = c .before .before .before .before in
-    let worlds = right start .sizes .worlds in
-    (
+    let worlds = right start .sizes .worlds in (
       omega (arith, counts-long (c .before), right start .fluents-range .1),
-      rw (c .before .fluent-bytes .ensures) (sym (right start .product)), omega arith,
+      rw (c .before .fluent-bytes .ensures) (sym (right start .product)),
+      omega arith,
     )
 
 rule-count-requires : tie.Need-rule-count-requires Inv-loop μ-loop
@@ -85,9 +85,11 @@ apply-rule-requires c κs =
     let at-loop = c .before .before .before .before in
     let decoded = at-loop .before .before .before in
     let counts = decoded .before .before in
-    let start = counts .before .before .before in
-    (
-      start .pre .0, at-loop .loop .inv .long ∙ start .pre .1, omega (arith, at-loop .before .rule-count .ensures), start .pre .2,
+    let start = counts .before .before .before in (
+      start .pre .0,
+      at-loop .loop .inv .long ∙ start .pre .1,
+      omega (arith, at-loop .before .rule-count .ensures),
+      start .pre .2,
       decoded .world-values .ensures ∙ rw (counts .fluent-bytes .ensures),
     )
 

@@ -30,8 +30,11 @@ mul-result-2 : tie.Need-mul-result-2
 mul-result-2 c =
     let a = c .before .before .before .args in
     let row = c .before .row .ensures in
-    omega (arith, product-le 65280 65790 (a .action * a .sizes .worlds + c .before .row .result) (c .width .result)
-    (omega (arith, rows (c .before .before))) (omega (arith, c .width .ensures)))
+    omega (
+      arith,
+      product-le 65280 65790 (a .action * a .sizes .worlds + c .before .row .result) (c .width .result)
+          (omega (arith, rows (c .before .before))) (omega (arith, c .width .ensures)),
+    )
 
 returns : tie.Need-returns
 returns c = rw (c .before .row .ensures, mul-one, c .width .ensures)
