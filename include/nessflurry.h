@@ -53,22 +53,27 @@
  * The version of this header. nessflurry_version() returns the library's. If the two differ, the library has other functions or
  * answers than this header describes: call nothing else of it. A library that has more functions keeps its version.
  *
- * A caller of version 1, which knew one kind of line's end, has to be compiled with this header and to change this:
+ * A caller of version 2 has to be compiled with this header, and to change only what relies on which of several shortest failing
+ * lines the checks tell: up to version 2 the one with the lowest start came first, then the one with the lower kind at the first
+ * lamp that differs, then the one with the lower end kind. No function, code or field has another form.
+ *
+ * A caller of version 1, which knew one kind of line's end, has to change this besides:
  *
  * - nessflurry_run takes an end kind after the line. For a file of one end kind, 0 does what version 1 did.
  * - `head` of nessflurry_read has 17 elements: NESSFLURRY_HEAD_LAST_END is new, and the index of each offset and length is one higher.
  * - nessflurry_raw_run and nessflurry_raw_read have changed in the same two ways under the same names. A linker does not notice: an object
  *   that was compiled with version 1, or a binding made for it, links and goes wrong.
  * - A failure of the checks has an end kind, nessflurry_end_of, where version 1 had 0.
- * - Byte 6 of a job file, which had to be 0, is the number of end kinds less one. A file in which it is 0 means what it meant, and all
- *   its answers are as they were. Others, which version 1 refused with 2, may be accepted now; a caller whose lines have one kind of end tests
- *   that head[NESSFLURRY_HEAD_LAST_END] is 0. A caller that takes any file must not take a lamp's kind for its column: kind k is column
- *   head[NESSFLURRY_HEAD_LAST_END] + k, in nessflurry_walk and in the tables, and the tables have E + C columns instead of C + 1.
+ * - Byte 6 of a job file, which had to be 0, is the number of end kinds less one. A file in which it is 0 means what it meant, and
+ *   its answers are as they were, but for which of several shortest failing lines is told. Others, which version 1 refused with 2,
+ *   may be accepted now; a caller whose lines have one kind of end tests that head[NESSFLURRY_HEAD_LAST_END] is 0. A caller that
+ *   takes any file must not take a lamp's kind for its column: kind k is column head[NESSFLURRY_HEAD_LAST_END] + k, in
+ *   nessflurry_walk and in the tables, and the tables have E + C columns instead of C + 1.
  *
  * The walk, both checks, the replay, begin, action and report are called as before. A cabinet is not told what its line ends in: its plan
  * senses that.
  */
-#define NESSFLURRY_VERSION 2
+#define NESSFLURRY_VERSION 3
 
 /* Makes the compiler warn if an answer is dropped. */
 #if (defined __cplusplus && __cplusplus >= 201703L) || (defined __STDC_VERSION__ && __STDC_VERSION__ > 201710L)
@@ -283,7 +288,8 @@ static inline uint64_t nessflurry_run(const uint8_t *file, size_t file_size, uin
  *
  * A failure: from start_of, the plan fails in this way on the line that is now in the first lamps_of elements of `line` and ends in
  * the end kind end_of; the rest of `line` is unchanged. No shorter line fails. Of several failing lines of that length it is the one
- * with the lowest start, then the one with the lower kind at the first lamp that differs, and then the one with the lower end kind.
+ * with the lower kind at the first lamp that differs, then the one with the lower end kind; and start_of is the lowest start from
+ * which the plan fails on it. A failure at a lamp comes with every end kind: then end_of is 0.
  *
  * `line` needs S * W + 1 elements, `list` (S + 1) * W, and `words` as many bits, 64 to an element: NESSFLURRY_LINE_SIZE,
  * NESSFLURRY_LIST_SIZE and NESSFLURRY_WORDS_SIZE elements are enough for every job. `list` and `words` are working memory: they

@@ -57,20 +57,21 @@ static unsigned word_count(const struct job *job)
 
 /*
  * The pairs reached: the working list has them in the order of arrival, the words have one bit for each. An entry of
- * the list is a pair (13 bits), the place in the list of the pair it was arrived at from (13 bits) and the kind of the
- * lamp passed in between (4 bits), which is 0 for a pair at the beginning.
+ * the list is a pair (13 bits), the place in the list of the pair it was arrived at from (13 bits), the kind of the
+ * lamp passed in between (4 bits), and whether a line begins here (1 bit): pairs that are reached by the same line from different
+ * starts stand together. A pair at the beginning has its own place, and kind 0.
  */
 struct search {
     struct job job;
     uint32_t *list;
     uint64_t *words;
-    uint32_t reached;
+    uint32_t reached, begins; /* the length of the list; and where in it those pairs begin that the line being tried brings */
     struct memory *memory; /* of the form that remembers */
 };
 
-static uint32_t entry_of(struct pair pair, uint32_t from, unsigned kind)
+static uint32_t entry_of(struct pair pair, uint32_t from, unsigned kind, bool begins_line)
 {
-    return packed(pair) | from << 13 | (uint32_t)kind << 26;
+    return packed(pair) | from << 13 | (uint32_t)kind << 26 | (uint32_t)begins_line << 30;
 }
 
 static struct pair pair_in(uint32_t entry)
@@ -85,7 +86,21 @@ static uint32_t from_in(uint32_t entry)
 
 static unsigned kind_in(uint32_t entry)
 {
-    return entry >> 26;
+    return entry >> 26 & 0xf;
+}
+
+static bool begins_line_in(uint32_t entry)
+{
+    return entry >> 30;
+}
+
+/* Where the pairs of the line that begins at this place are over. */
+static uint32_t after_line(const uint32_t *list, uint32_t reached, uint32_t place)
+{
+    do
+        place++;
+    while (place < reached && !begins_line_in(list[place]));
+    return place;
 }
 
 /* ---- What a pair comes to at a column ---- */
@@ -165,47 +180,105 @@ EACH_FORM unsigned remembered_fate(struct search *search, struct pair at, unsign
 /* As `longest`: the search goes on until no pair is left, as none has so many lamps. No check can be told this number. */
 enum { NO_BOUND = NESSFLURRY_MAX_LAMPS + 1 };
 
-/* What becomes of the same lamps with every end kind: Goal with all of them; or a failure, and the lowest with which it comes. */
+/*
+ * What becomes of a line whose starts are tried, ascending. Goal so far; or a failure, the lowest end kind with which it comes, and
+ * of the starts that fail with this one the lowest: by the place of the pair with which it comes to the last lamp, and that lamp's
+ * kind. For the empty line it is the start's own place, and kind 0. Before a failure the end kind is E, so that any is lower.
+ */
 struct verdict {
-    unsigned code, end;
+    unsigned code, end, kind;
+    uint32_t place;
 };
 
-/* Lines that end with this pair, the end kinds ascending. */
-EACH_FORM struct verdict judge_ends(struct search *search, finder *fate_of, struct pair pair)
+static struct verdict not_failed(const struct job *job)
 {
-    const unsigned ends = search->job.ends;
-    for (unsigned end = 0; end < ends; end++) {
+    return (struct verdict){.code = NESSFLURRY_GOAL, .end = job->ends};
+}
+
+/*
+ * A start with which the line ends with this pair; lower starts have come to `so_far`. Only a lower end kind than theirs can come
+ * first, and the end kinds ascend.
+ */
+EACH_FORM struct verdict judge_ends(struct search *search, finder *fate_of, struct pair pair, uint32_t from, unsigned kind,
+                                    struct verdict so_far)
+{
+    for (unsigned end = 0; end < so_far.end; end++) {
         const unsigned fate = fate_of(search, pair, end);
         if (fate != NESSFLURRY_GOAL)
-            return (struct verdict){fate, end};
+            return (struct verdict){.code = fate, .end = end, .kind = kind, .place = from};
     }
-    return (struct verdict){.code = NESSFLURRY_GOAL};
+    return so_far;
 }
 
 /*
  * A line comes with this pair to its end, or to a further lamp. The first time the pair is kept, and the line that ends
- * here is judged with every end kind. A later line that ends with the same pair ends in the same way with each of them, and
- * the first one did not fail.
+ * here is judged with every end kind that can come first. A later line that ends with the same pair ends in the same way with each
+ * of them, and the first one did not fail; nor does a higher start of the same line fail with a lower end kind than the first did.
  */
-EACH_FORM struct verdict arrive(struct search *search, finder *fate_of, struct pair pair, uint32_t from, unsigned kind)
+EACH_FORM struct verdict arrive(struct search *search, finder *fate_of, struct pair pair, uint32_t from, unsigned kind,
+                                struct verdict so_far)
 {
     const unsigned number = number_of(&search->job, pair);
     const uint64_t bit = (uint64_t)1 << number % 64;
     if (search->words[number / 64] & bit)
-        return (struct verdict){.code = NESSFLURRY_GOAL};
+        return so_far;
     search->words[number / 64] |= bit;
-    search->list[search->reached++] = entry_of(pair, from, kind);
-    return judge_ends(search, fate_of, pair);
+    search->list[search->reached] = entry_of(pair, from, kind, search->reached == search->begins);
+    search->reached++;
+    return judge_ends(search, fate_of, pair, from, kind, so_far);
+}
+
+/* The empty line, from every start. After a failure with end kind 0 no higher start can come first, here and below. */
+EACH_FORM struct verdict try_starts(struct search *search, finder *fate_of)
+{
+    const struct job *const job = &search->job;
+    struct verdict verdict = not_failed(&search->job);
+    for (world_state start = {0}; start.number < job->worlds && verdict.end > 0; start.number++)
+        if (job->starts[start.number] == 1)
+            verdict = arrive(search, fate_of, (struct pair){job->first, start}, search->reached, 0, verdict);
+    return verdict;
 }
 
 /*
- * The line to the pair at this place, and after it one lamp of this kind and any end. What ends at the lamp ends there
- * whatever the end kind is, so that the lowest is 0.
+ * The line to the pair at this place, and after it one lamp of this kind and any end; lower starts have come to `so_far`. What ends
+ * at the lamp ends there whatever the end kind is, so that the lowest is 0.
  */
-EACH_FORM struct verdict lengthen(struct search *search, finder *fate_of, struct pair pair, uint32_t place, unsigned kind)
+EACH_FORM struct verdict lengthen(struct search *search, finder *fate_of, struct pair pair, uint32_t place, unsigned kind,
+                                  struct verdict so_far)
 {
     const unsigned fate = fate_of(search, pair, lamp_column(&search->job, kind));
-    return fate < GOES ? (struct verdict){.code = fate} : arrive(search, fate_of, unpacked(fate - GOES), place, kind);
+    if (fate >= GOES)
+        return arrive(search, fate_of, unpacked(fate - GOES), place, kind, so_far);
+    return fate == NESSFLURRY_GOAL ? so_far : (struct verdict){.code = fate, .kind = kind, .place = place};
+}
+
+/*
+ * The line to the pairs from one place to before another, and after it one lamp of each kind, until a line fails. All pairs are
+ * taken with one kind before any of them with the next: the line that the next kind makes is later, whatever the start.
+ */
+EACH_FORM struct verdict lengthen_together(struct search *search, finder *fate_of, uint32_t from, uint32_t to)
+{
+    const unsigned kinds = search->job.kinds;
+    struct verdict verdict = not_failed(&search->job);
+    for (unsigned kind = 1; kind <= kinds && verdict.code == NESSFLURRY_GOAL; kind++) {
+        search->begins = search->reached;
+        for (uint32_t place = from; place < to && verdict.end > 0; place++)
+            verdict = lengthen(search, fate_of, pair_in(search->list[place]), place, kind, verdict);
+    }
+    return verdict;
+}
+
+/* The same where the line has one pair alone, as most lines have, so that what its walks have in common is found once. */
+EACH_FORM struct verdict lengthen_alone(struct search *search, finder *fate_of, uint32_t place)
+{
+    const unsigned kinds = search->job.kinds;
+    const struct pair pair = pair_in(search->list[place]);
+    struct verdict verdict = not_failed(&search->job);
+    for (unsigned kind = 1; kind <= kinds && verdict.code == NESSFLURRY_GOAL; kind++) {
+        search->begins = search->reached;
+        verdict = lengthen(search, fate_of, pair, place, kind, verdict);
+    }
+    return verdict;
 }
 
 /* How many lamps are passed on the way from a start to this place of the list. */
@@ -218,14 +291,15 @@ static uint32_t lamps_before(const uint32_t *list, uint32_t place)
 }
 
 /*
- * The failing answer for the line to this place with one lamp of this kind after it. The line is written from its last
- * lamp to its first, and then the place is that of its start. It fits: on the way each pair is left by moving on, so it
- * is non-final, and none comes twice; so at most S·W lamps are before the last one.
+ * The failing answer for a line that is not empty. It is written from its last lamp to its first, and then the place is that of its
+ * start. It fits: on the way each pair is left by moving on, so it is non-final, and none comes twice; so at most S·W lamps are
+ * before the last one.
  */
-static uint64_t failed_line(const uint32_t *list, struct verdict failure, uint32_t place, unsigned kind, uint8_t *line)
+static uint64_t failed_line(const uint32_t *list, struct verdict failure, uint8_t *line)
 {
+    uint32_t place = failure.place;
     const uint32_t lamps = lamps_before(list, place) + 1;
-    line[lamps - 1] = (uint8_t)kind;
+    line[lamps - 1] = (uint8_t)failure.kind;
     for (uint32_t left = lamps - 1; left > 0; left--) {
         line[left - 1] = (uint8_t)kind_in(list[place]);
         place = from_in(list[place]);
@@ -234,8 +308,9 @@ static uint64_t failed_line(const uint32_t *list, struct verdict failure, uint32
 }
 
 /*
- * The first failure met is that of the least failing line (01, The check): lines are compared by their lamps, then by
- * their starts, then kind by kind from the first lamp on, and last by their end kinds (02, (c)).
+ * The failure that is answered is the least (01, The check; 02, (c) and (f)): lines are compared by their lamps, then kind by kind
+ * from the first lamp on, then by their end kinds, and last by the starts from which they fail. It is on the first line that fails,
+ * and starts of that line which come after the first failure are tried only for a lower end kind.
  *
  * A walk depends on its pair and its column alone. So where a run fails before its line's last lamp, the line up to the
  * lamp of the failure is shorter and fails as well: a shortest failing line fails at its last lamp or at its end.
@@ -243,21 +318,22 @@ static uint64_t failed_line(const uint32_t *list, struct verdict failure, uint32
  * A line of n + 1 lamps is a line of n lamps and a kind. Where its run comes to the last lamp at all, with a pair,
  * `lengthen` judges it from that pair and kind: by the walk at the last lamp if that ends there, and otherwise by the
  * walks at its ends. A failure at an end is found as soon as the pair is arrived at, since that line has as many lamps
- * as one that fails at its last lamp, and only start and kinds may decide between the two. Where a run ends before the
+ * as one that fails at its last lamp, and only kinds, end kind and start may decide between the two. Where a run ends before the
  * last lamp, its line reaches Goal, or a shorter one has failed.
  *
- * When the same lamps and end are added to two lines, the one that is earlier in the order stays the earlier. So among the
- * lines that arrive with one pair the first speaks for all: whatever lamps and end follow, another fails with them exactly
- * if the first does, and then it is later in the order. This is why a pair is kept once, when it is first arrived at.
+ * When the same lamps and end are added to two lines, the one that is earlier in the order stays the earlier, and of two starts
+ * on one line the lower stays the lower. So among the lines and starts that arrive with one pair the first speaks for all:
+ * whatever lamps and end follow, another fails with them exactly if the first does, and then it is later in the order. This is
+ * why a pair is kept once, when it is first arrived at.
  *
- * The list has the pairs in the order of these first lines: the starts, ascending, have no lamps; and the pairs of n
- * lamps, taken in their order, with the kinds ascending for each, give the lines of n + 1 lamps in theirs, all of them
- * before any of n + 2.
+ * The list has the pairs in the order of these first lines, and those of one line by their starts: the starts themselves,
+ * ascending, are the pairs of the empty line; and the lines of n lamps, taken in their order, with the kinds ascending for each,
+ * give the lines of n + 1 lamps in theirs, all of them before any of n + 2.
  *
  * When no line fails, the list has each pair that some line reaches, once, as the words have one bit for it: their sum
  * is the length of the list.
  *
- * Once the last pair of n lamps is taken, the list ends with the pairs of n + 1 lamps. Pairs of `longest` lamps are not taken:
+ * Once the last line of n lamps is taken, the list ends with the pairs of n + 1 lamps. Lines of `longest` lamps are not taken:
  * no lamp is tried after them, so that no longer line is looked at (02, (b)).
  *
  * The search is handed over by value, so that no other pointer can lead to its numbers, and they may stay in registers.
@@ -266,22 +342,17 @@ EACH_FORM uint64_t search_lines(struct search search, finder *fate_of, uint32_t 
 {
     const struct job *const job = &search.job;
     memset(search.words, 0, word_count(job) * sizeof *search.words);
-    for (world_state start = {0}; start.number < job->worlds; start.number++) {
-        if (job->starts[start.number] != 1)
-            continue;
-        const struct verdict verdict = arrive(&search, fate_of, (struct pair){job->first, start}, 0, 0);
+    const struct verdict empty = try_starts(&search, fate_of);
+    if (empty.code != NESSFLURRY_GOAL)
+        return answered(empty.code, pair_in(search.list[empty.place]).world.number, empty.end, 0);
+    uint32_t lamps = 0, end = search.reached; /* of the line that is next; and where the pairs of one lamp more begin */
+    for (uint32_t place = 0, next; place < search.reached && lamps < longest; place = next) {
+        next = after_line(search.list, search.reached, place);
+        const struct verdict verdict =
+            next - place == 1 ? lengthen_alone(&search, fate_of, place) : lengthen_together(&search, fate_of, place, next);
         if (verdict.code != NESSFLURRY_GOAL)
-            return answered(verdict.code, start.number, verdict.end, 0);
-    }
-    uint32_t lamps = 0, end = search.reached; /* of the pair that is next; and where the pairs of one lamp more begin */
-    for (uint32_t place = 0; place < search.reached && lamps < longest; place++) {
-        const struct pair pair = pair_in(search.list[place]);
-        for (unsigned kind = 1; kind <= job->kinds; kind++) {
-            const struct verdict verdict = lengthen(&search, fate_of, pair, place, kind);
-            if (verdict.code != NESSFLURRY_GOAL)
-                return failed_line(search.list, verdict, place, kind, line);
-        }
-        if (place + 1 == end) {
+            return failed_line(search.list, verdict, line);
+        if (next == end) {
             lamps++;
             end = search.reached;
         }

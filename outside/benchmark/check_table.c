@@ -56,15 +56,16 @@ static const struct {
     {"over soon", JOB_RANDOM_FAILURE, MIDDLE}, {"over soon", JOB_RANDOM_FAILURE, FULL},
     {"many pairs", JOB_ACCEPTED, SMALL},       {"many pairs", JOB_ACCEPTED, MIDDLE},
     {"many pairs", JOB_ACCEPTED, FULL},        {"many pairs", JOB_RANDOM, MIDDLE},
-    {"many pairs", JOB_RANDOM, FULL},          {"long walks", JOB_WALK, SMALL},
-    {"long walks", JOB_WALK, MIDDLE},          {"long walks", JOB_WALK, FULL},
-    {"long walks", JOB_WORK, SMALL},           {"long walks", JOB_WORK, MIDDLE},
-    {"long walks", JOB_WORK, FULL},
+    {"many pairs", JOB_RANDOM, FULL},          {"many starts", JOB_RIVALS, SMALL},
+    {"many starts", JOB_RIVALS, MIDDLE},       {"many starts", JOB_RIVALS, FULL},
+    {"long walks", JOB_WALK, SMALL},           {"long walks", JOB_WALK, MIDDLE},
+    {"long walks", JOB_WALK, FULL},            {"long walks", JOB_WORK, SMALL},
+    {"long walks", JOB_WORK, MIDDLE},          {"long walks", JOB_WORK, FULL},
 };
 
 /* The largest jobs once more, with half of their columns end kinds. */
 static const enum sized_job with_8_ends[] = {JOB_LONG_FAILURE, JOB_AT_ONCE, JOB_RANDOM_FAILURE, JOB_ACCEPTED,
-                                             JOB_RANDOM,       JOB_WALK,    JOB_WORK};
+                                             JOB_RANDOM,       JOB_WALK,    JOB_WORK,           JOB_RIVALS};
 
 static void print_check(const char *class, const struct subject *subject)
 {

@@ -4,7 +4,7 @@
  * job files every operation on them is called on both sides and compared, and what the demands say of several calls together is
  * tried; and parts of right and wrong sizes are filled from rules files. All of it is done on a stack of the size that
  * nessflurry.h says a check needs; and the checks of the largest jobs are made first, each with that stack for itself. At last
- * files of one end kind are answered, and have to have the answers that they had before there were several.
+ * files of one end kind are answered, and have to have the answers from before there were several, but with the start compared last.
  *
  *     compare           the standard run
  *     compare long      some seven times as many files
@@ -40,7 +40,7 @@ static void try_sound(struct trial *trial)
         lead_cabinet(trial, accepted);
     }
     try_logs(trial);
-    /* On bench line G's variants and the largest jobs, and on some of the random ones. */
+    /* On bench line G's variants, the known rivals and the largest jobs, and on some of the random ones. */
     if (place.number < FIRST_RANDOM || one_in(&trial->random, LONG_LOG_RARITY))
         try_longest_log(trial);
     try_rules_of_cells(trial);

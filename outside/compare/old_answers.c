@@ -18,9 +18,9 @@ enum { FILES = 10000 };
  * made from random numbers, so this number depends on what job_files/ draws for them as much as on the answers. Where a draw
  * moves, it is made anew: as answers_of the plain side, with this file and the present job_files/ compiled against plain*.c and
  * nessflurry.h of version 1, in which a run is handed no end. Where a request moves answers on files of one end kind, the same
- * change is made in that plain*.c first.
+ * change is made in that plain*.c first. This was done for (f): among equally long failing lines the start is compared last.
  */
-#define OLD_ANSWERS UINT64_C(0x832A824808D049AF)
+#define OLD_ANSWERS UINT64_C(0x2DADD9675AE36151)
 
 /* All answers so far, as one number. */
 static struct random answers;

@@ -60,6 +60,10 @@ static uint64_t compared, differing;
 static uint32_t most_pairs, longest_failing_line, most_possible_bytes, furthest_place;
 static uint64_t failures[MOST_ENDS]; /* of the full check, by end kind */
 
+/* Failures that were told where another start, a higher or a lower one, fails on a line as long. */
+static uint64_t told_before[2][RIVALRIES];
+static const char *const rival_names[2] = {"higher", "lower"};
+
 /* Accepted checks in which the bits of all pairs end with a word, as many pairs are reached as fill words, or all there are. */
 enum word_end { PAIRS_END_WITH_WORD, REACHED_FILL_WORDS, ALL_REACHED, WORD_ENDS };
 static const char *const word_end_names[WORD_ENDS] = {"pairs ending with a word", "64 reached or a multiple", "all reached"};
@@ -71,6 +75,8 @@ static uint32_t longest_part, longest_rules, most_rules;
 
 static const char *const lendable_names[LENDABLE] = {"file", "line", "line buffer", "list", "words", "log", "rules", "part"};
 static uint64_t nulls[LENDABLE];
+
+void count_rivalry(bool lower, enum rivalry rivalry) { told_before[lower][rivalry]++; }
 
 void count_null(enum lendable what) { nulls[what]++; }
 
@@ -234,6 +240,17 @@ static void print_operation(enum operation operation)
     printf("\n");
 }
 
+/* How many of the reasons there can be for telling a start before a lower one, or a higher one. */
+static enum rivalry reasons(bool lower) { return lower ? BY_START : RIVALRIES; }
+
+static void print_rivals(bool lower)
+{
+    printf("told before a %s start by", rival_names[lower]);
+    for (enum rivalry by = EARLIER_LINE; by < reasons(lower); by++)
+        printf("%s %s %" PRIu64, by == EARLIER_LINE ? ":" : ";", rivalry_names[by], told_before[lower][by]);
+    printf("\n");
+}
+
 void print_tally(void)
 {
     for (enum operation operation = READ; operation < OPERATIONS; operation++)
@@ -245,7 +262,10 @@ void print_tally(void)
            longest_failing_line);
     for (int end = 0; end < MOST_ENDS; end++)
         printf(" %" PRIu64, failures[end]);
-    printf("\naccepted with");
+    printf("\n");
+    print_rivals(true);
+    print_rivals(false);
+    printf("accepted with");
     for (enum word_end what = PAIRS_END_WITH_WORD; what < WORD_ENDS; what++)
         printf("%s %s %" PRIu64, what == PAIRS_END_WITH_WORD ? "" : ",", word_end_names[what], word_ends[what]);
     printf("\n");
@@ -313,6 +333,17 @@ static bool end_kinds_seen(void)
     return all;
 }
 
+static bool rivals_seen(bool lower)
+{
+    bool all = true;
+    for (enum rivalry by = EARLIER_LINE; by < reasons(lower); by++)
+        if (told_before[lower][by] == 0) {
+            printf("never seen: check telling a failure before that of a %s start by %s\n", rival_names[lower], rivalry_names[by]);
+            all = false;
+        }
+    return all;
+}
+
 static bool word_ends_seen(void)
 {
     bool all = true;
@@ -329,6 +360,8 @@ bool all_seen(void)
     bool all = longest_log_seen();
     all = fills_seen() && all;
     all = end_kinds_seen() && all;
+    all = rivals_seen(true) && all;
+    all = rivals_seen(false) && all;
     all = word_ends_seen() && all;
     for (enum operation operation = READ; operation < OPERATIONS; operation++)
         all = seen(operation) && all;

@@ -4,6 +4,7 @@
 #ifndef OUTSIDE_TALLY_H
 #define OUTSIDE_TALLY_H
 
+#include "job_files/failures.h"
 #include "job_files/rules_files.h"
 
 enum operation { READ, WALK, RUN, CHECK, CHECK_UP_TO, BEGIN, ACTION, REPORT, REPLAY, FILL, SUM, OPERATIONS };
@@ -26,6 +27,9 @@ void count_answer(enum operation operation, uint64_t answer);
 /* Counts one compared sum of this many bits. It is a number, and no answer with a code. */
 void count_sum(size_t sum, size_t bits);
 
+/* Counts a failure that is told although another start, a lower or a higher one, fails on a line as long. */
+void count_rivalry(bool lower, enum rivalry rivalry);
+
 /* Counts something that is lent as NULL, because it is empty. */
 enum lendable { JOB_FILE, LINE, LINE_BUFFER, WORKING_LIST, WORKING_WORDS, LOG, RULES_FILE, CELLS_PART, LENDABLE };
 void count_null(enum lendable what);
@@ -40,10 +44,11 @@ void count_difference(void);
 void print_tally(void);
 
 /*
- * Whether every answer and every refusal of every operation, a failure with each end kind, accepted checks whose pairs, or
- * those reached, fill words, one that reaches all pairs, each thing as NULL, a possible log of the greatest length, parts filled
- * with each number of fluents, one of the greatest length, one by a rules file that is longer than a job file may be, and one by
- * more rules than a number of 16 bits can say have been seen; names what has not.
+ * Whether every answer and every refusal of every operation, a failure with each end kind, failures told before that of a lower and
+ * of a higher start by each reason that there can be, accepted checks whose pairs, or those reached, fill words, one that reaches
+ * all pairs, each thing as NULL, a possible log of the greatest length, parts filled with each number of fluents, one of the
+ * greatest length, one by a rules file that is longer than a job file may be, and one by more rules than a number of 16 bits can
+ * say have been seen; names what has not.
  */
 bool all_seen(void);
 

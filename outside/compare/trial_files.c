@@ -68,6 +68,8 @@ static void make_numbered_job(struct job *job, uint32_t number)
         make_counting(job, number - FIRST_COUNTING);
     else if (number >= FIRST_CROWDED)
         make_crowded(job, number - FIRST_CROWDED);
+    else if (number >= FIRST_RIVALS)
+        known_rivals(job, (number - FIRST_RIVALS) / 2, (number - FIRST_RIVALS) % 2);
     else if (number >= FIRST_ENDS && number < FIRST_SIZE)
         three_ends_job(job);
     else

@@ -4,7 +4,9 @@
 #ifndef OUTSIDE_TRIALS_H
 #define OUTSIDE_TRIALS_H
 
+#include "job_files/failures.h"
 #include "job_files/families.h"
+#include "job_files/rivals.h"
 #include "job_files/rules_files.h"
 
 struct trial {
@@ -33,7 +35,8 @@ enum {
     FIRST_ENDS = BENCH_BYTES * 256,                  /* before it: the first of the two with each byte at each value */
     FIRST_SIZE = FIRST_ENDS + ENDS_BYTES * 256,      /* before it: the second one like this */
     FIRST_BENCH = FIRST_SIZE + BENCH_BYTES + 32 + 3, /* before it: the first at sizes up to 159 and at the largest three */
-    FIRST_CROWDED = FIRST_BENCH + BENCH_VARIANTS,
+    FIRST_RIVALS = FIRST_BENCH + BENCH_VARIANTS,
+    FIRST_CROWDED = FIRST_RIVALS + 2 * KNOWN_RIVALS,                  /* before it: known rivals, each two as listed and mirrored */
     FIRST_COUNTING = FIRST_CROWDED + (MOST_STATES + 1) * MOST_WORLDS, /* before it: a crowded job of each S and W */
     FIRST_LARGE = FIRST_COUNTING + (MOST_STATES - 1) * MOST_WORLDS,   /* before it: a counting job of each W, and S from 2 on */
     FIRST_RULES = FIRST_LARGE + (SIZES - FULL) * SIZED_JOBS,
@@ -52,6 +55,9 @@ void try_cabinet_calls(struct trial *trial);
 
 /* The checks, and what follows from them for runs; answers whether the plan is accepted. */
 bool try_checks(struct trial *trial);
+
+/* The check of one start alone, for some of the job's starts, beside the failure that is told of all. */
+void try_starts_alone(struct trial *trial, const struct failure *told);
 
 /* The checks, each of the product's with the small stack for itself (small_stack.h). */
 void try_checks_alone(struct trial *trial);

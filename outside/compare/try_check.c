@@ -7,7 +7,8 @@
 #include "tally.h"
 #include "trials.h"
 
-static uint8_t line[NESSFLURRY_MAX_LAMPS + 1], failing_line[NESSFLURRY_LINE_SIZE];
+static uint8_t line[NESSFLURRY_MAX_LAMPS + 1];
+static struct failure failure;
 
 static bool ends_in(uint64_t answer, uint8_t code) { return nessflurry_code_of(answer) == code; }
 
@@ -64,7 +65,7 @@ void try_short_buffers(struct trial *trial)
         sizes.list = too_few(needed.list, random);
     if (which & 4)
         sizes.words = too_few(needed.words, random);
-    uint64_t answer = compare_both_checks(compare_check, sizes, failing_line, random);
+    uint64_t answer = compare_both_checks(compare_check, sizes, failure.line, random);
     uint8_t due = which & 1 ? NESSFLURRY_REFUSED_LINE_BUFFER : NESSFLURRY_REFUSED_WORK_BUFFERS;
     demand(nessflurry_refusal_of(answer) == due, "the refusal of a short line buffer, else that of list and words");
 }
@@ -96,68 +97,81 @@ static void try_shorter(struct trial *trial, uint32_t failing_lamps)
     if (one_in(&trial->random, 2))
         choose_kinds(&trial->job, &trial->random, line, lamps);
     else
-        memcpy(line, failing_line, lamps);
+        memcpy(line, failure.line, lamps);
+    expect_goal(trial, start, line, lamps, end);
+}
+
+/* Nor does a line as long as it that comes before it, with a lower kind where the two first differ, whatever its start and end. */
+static void try_earlier(struct trial *trial, uint32_t lamps)
+{
+    uint8_t start = marked_start(&trial->job, &trial->random), end = choose_end(&trial->job, &trial->random);
+    uint32_t differs = below(&trial->random, lamps);
+    if (failure.line[differs] == 1)
+        return;
+    choose_kinds(&trial->job, &trial->random, line, lamps);
+    memcpy(line, failure.line, differs);
+    line[differs] = (uint8_t)(1 + below(&trial->random, failure.line[differs] - 1u));
     expect_goal(trial, start, line, lamps, end);
 }
 
 /*
- * Nor does a line as long as it that comes before it, whatever its end: from a lower start, or with a lower kind where the two
- * first differ.
+ * Nor do its own lamps with a lower end kind, whatever the start. So a failure at a lamp, which comes with every end kind, is told
+ * with 0.
  */
-static void try_earlier(struct trial *trial, uint8_t failing_start, uint32_t lamps)
+static void try_lower_ends(struct trial *trial)
 {
-    uint8_t start = marked_start(&trial->job, &trial->random), end = choose_end(&trial->job, &trial->random);
-    uint32_t differs = lamps > 0 ? below(&trial->random, lamps) : 0;
-    choose_kinds(&trial->job, &trial->random, line, lamps);
-    if (start >= failing_start) {
-        if (lamps == 0 || failing_line[differs] == 1)
-            return;
-        start = failing_start;
-        memcpy(line, failing_line, differs);
-        line[differs] = (uint8_t)(1 + below(&trial->random, failing_line[differs] - 1u));
+    for (uint8_t end = 0; end < nessflurry_end_of(failure.answer); end++) {
+        uint8_t start = one_in(&trial->random, 2) ? nessflurry_start_of(failure.answer) : marked_start(&trial->job, &trial->random);
+        expect_goal(trial, start, failure.line, nessflurry_lamps_of(failure.answer), end);
     }
-    expect_goal(trial, start, line, lamps, end);
 }
 
-/* Nor do its own lamps with a lower end kind. So a failure at a lamp, which comes with every end kind, is told with 0. */
-static void try_lower_ends(struct trial *trial, uint64_t failed)
+/* Nor does the line itself from a lower start. */
+static void try_lower_starts(struct trial *trial)
 {
-    for (uint8_t end = 0; end < nessflurry_end_of(failed); end++)
-        expect_goal(trial, nessflurry_start_of(failed), failing_line, nessflurry_lamps_of(failed), end);
+    for (uint8_t start = 0; start < nessflurry_start_of(failure.answer); start++)
+        if (trial->job.starts[start])
+            expect_goal(trial, start, failure.line, nessflurry_lamps_of(failure.answer), nessflurry_end_of(failure.answer));
 }
 
-static void follow_failed(struct trial *trial, uint64_t failed)
+static void follow_failed(struct trial *trial)
 {
-    uint8_t start = nessflurry_start_of(failed), end = nessflurry_end_of(failed);
-    uint32_t lamps = nessflurry_lamps_of(failed), most = (uint32_t)trial->job.states * trial->job.worlds + 1;
+    uint8_t start = nessflurry_start_of(failure.answer), end = nessflurry_end_of(failure.answer);
+    uint32_t lamps = nessflurry_lamps_of(failure.answer), most = (uint32_t)trial->job.states * trial->job.worlds + 1;
     demand(lamps <= most, "a failing line of at most S·W + 1 lamps");
     if (lamps > most)
         return;
-    uint64_t ending = compare_run(start, failing_line, lamps, end, UINT32_MAX);
-    demand(ends_in(ending, nessflurry_code_of(failed)), "the named failure, from the run of the failing line");
+    uint64_t ending = compare_run(start, failure.line, lamps, end, UINT32_MAX);
+    bool as_told = ends_in(ending, nessflurry_code_of(failure.answer));
+    demand(as_told, "the named failure, from the run of the failing line");
+    if (!as_told)
+        return;
     uint32_t steps = nessflurry_steps_of(ending);
-    try_limit(start, failing_line, lamps, end, steps, ending);
+    try_limit(start, failure.line, lamps, end, steps, ending);
     if (steps > 0)
-        try_limit(start, failing_line, lamps, end, steps - 1, ending);
-    if (lamps > 0)
+        try_limit(start, failure.line, lamps, end, steps - 1, ending);
+    if (lamps > 0) {
         try_shorter(trial, lamps);
-    try_earlier(trial, start, lamps);
-    try_lower_ends(trial, failed);
+        try_earlier(trial, lamps);
+    }
+    try_lower_ends(trial);
+    try_lower_starts(trial);
+    try_starts_alone(trial, &failure);
 }
 
 bool try_checks(struct trial *trial)
 {
     struct sizes sizes = enough_or_more(&trial->job, &trial->random);
-    uint64_t answer = compare_both_checks(compare_check, sizes, failing_line, &trial->random);
-    bool accepted = ends_in(answer, NESSFLURRY_ACCEPTED);
+    failure.answer = compare_both_checks(compare_check, sizes, failure.line, &trial->random);
+    bool accepted = ends_in(failure.answer, NESSFLURRY_ACCEPTED);
     if (accepted)
         follow_accepted(trial);
     else
-        follow_failed(trial, answer);
+        follow_failed(trial);
     return accepted;
 }
 
 void try_checks_alone(struct trial *trial)
 {
-    compare_both_checks(compare_check_alone, enough(&trial->job), failing_line, &trial->random);
+    compare_both_checks(compare_check_alone, enough(&trial->job), failure.line, &trial->random);
 }

@@ -1,9 +1,11 @@
 /*
- * Random jobs: tables with no meaning, plans that are right, members of the other families, and each of them with one change.
+ * Random jobs: tables with no meaning, plans that are right, members of the other families, and each of them with one change; and
+ * rivals.
  */
 #include "families.h"
 
 #include "arguments.h"
+#include "rivals.h"
 
 /* ---- Numbers, starts and gaps ---- */
 
@@ -214,6 +216,15 @@ static void random_turning_job(struct job *job, struct random *random, bool seve
     turning_job(job, movers, (uint32_t)random_word(random));
 }
 
+/* All of them stay starts. Of the numbers that are chosen, those of lamp kinds and end kinds do. */
+static void random_rival_job(struct job *job, struct random *random, bool several_ends)
+{
+    memset(job->gap, 0, sizeof job->gap);
+    choose_numbers(job, random, several_ends, 1, 1, 0);
+    uint8_t lamps = mostly_small(random, 0, RIVAL_LAMPS), count = mostly_small(random, 3, MOST_RIVALS);
+    random_rivals(job, random, lamps, count);
+}
+
 /* ---- One change ---- */
 
 static void change_plan(struct job *job, struct random *random)
@@ -314,7 +325,10 @@ static void make_job(struct job *job, struct random *random, bool several_ends)
 void random_job(struct job *job, struct random *random)
 {
     bool several_ends = !one_in(random, 3);
-    make_job(job, random, several_ends);
+    if (one_in(random, 12))
+        random_rival_job(job, random, several_ends);
+    else
+        make_job(job, random, several_ends);
 }
 
 void one_end_job(struct job *job, struct random *random) { make_job(job, random, false); }

@@ -10,7 +10,7 @@
 void random_job(struct job *job, struct random *random);
 
 /*
- * The same with one end kind. Each is what a job from the same random numbers was before there were several (document 02, (c)):
+ * The same with one end kind, and no rivals. Each is what a job from the same random numbers was before there were several (document 02, (c)):
  * nothing is drawn for its end. So answers that were given then can be asked for again (compare/old_answers.h).
  */
 void one_end_job(struct job *job, struct random *random);
@@ -72,6 +72,7 @@ enum sized_job {
     JOB_CIRCLE,         /* fails there too, by circling through nearly all pairs */
     JOB_RANDOM,         /* accepted, over random tables */
     JOB_RANDOM_FAILURE, /* the same with the goal false in one world, at the highest end kind */
+    JOB_RIVALS,         /* many starts go along the same line, and the highest alone fails, at its end (rivals.h) */
     JOB_UNTOLD_STAYING, /* circles everywhere; a replay keeps every world and column */
     JOB_UNTOLD_MOVING,  /* fails on the empty line; a replay keeps nearly all worlds, in every column */
     SIZED_JOBS

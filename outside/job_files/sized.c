@@ -3,6 +3,8 @@
  */
 #include "families.h"
 
+#include "rivals.h"
+
 static const struct job_numbers numbers_of[SIZES] = {
     [SMALL] = {4, 6, 3, 4, 8, .last_end = 0},
     [MIDDLE] = {8, 24, 7, 8, 24, .last_end = 0},
@@ -16,7 +18,7 @@ void largest_numbers(struct job *job) { set_numbers(job, numbers_of[FULL]); }
 const char *const size_names[SIZES] = {"small", "middle", "max", "ends_8", "ends_15"};
 const char *const sized_job_names[SIZED_JOBS] = {
     "accepted", "long_failure", "walk", "work", "at_once", "first_lamp", "circle", "random", "random_failure",
-    "untold_staying", "untold_moving",
+    "rivals", "untold_staying", "untold_moving",
 };
 
 /* From seeds with which many pairs are reached, and the failure is not met at once. */
@@ -40,6 +42,7 @@ static void make_tables(struct job *job, enum sized_job which, enum size size)
     case JOB_WORK: turning_job(job, movers, upper_turn); break;
     case JOB_RANDOM:
     case JOB_RANDOM_FAILURE: random_tables(job, size); break;
+    case JOB_RIVALS: rivals_in_step(job); break;
     case JOB_UNTOLD_STAYING:
     case JOB_UNTOLD_MOVING: untold_job(job, which == JOB_UNTOLD_MOVING); break;
     default: turning_job(job, movers, none_turn); break;

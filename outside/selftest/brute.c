@@ -77,18 +77,38 @@ bool next_line(uint8_t line[], uint32_t lamps, uint8_t *end)
     return false;
 }
 
-/* The lines of exactly this many lamps from one start: the failure of the first that fails, left in `line` and `end`, or Goal. */
-static unsigned try_lines(uint8_t start, uint32_t lamps, uint8_t line[], uint8_t *end, bool reached[BRUTE_PAIRS])
+/* The run of one line, which plain_run answers too. */
+static uint64_t try_line(uint8_t start, const uint8_t *line, uint32_t lamps, uint8_t end, bool reached[BRUTE_PAIRS])
 {
+    const uint64_t run = brute_run(start, line, lamps, end, reached);
+    expect("each line's run", plain_run(file.bytes, file.size, start, line, lamps, end, UINT32_MAX), run);
+    return run;
+}
+
+/* The lowest start from which the line fails with this end, as a failing answer; or Goal. */
+static uint64_t try_from_each(const uint8_t *line, uint32_t lamps, uint8_t end, bool reached[BRUTE_PAIRS])
+{
+    for (uint8_t start = 0; start < job.worlds; start++) {
+        if (job.starts[start] != 1)
+            continue;
+        const unsigned code = nessflurry_code_of(try_line(start, line, lamps, end, reached));
+        if (code != NESSFLURRY_GOAL)
+            return failing(code, start, lamps, end);
+    }
+    return ending(NESSFLURRY_GOAL, 0);
+}
+
+/* The lines of exactly this many lamps: the failing answer of the first that fails, which is left in `line`; or Goal. */
+static uint64_t try_lines(uint32_t lamps, uint8_t line[], bool reached[BRUTE_PAIRS])
+{
+    uint8_t end = 0;
     memset(line, 1, lamps);
-    *end = 0;
     do {
-        const uint64_t run = brute_run(start, line, lamps, *end, reached);
-        expect("each line's run", plain_run(file.bytes, file.size, start, line, lamps, *end, UINT32_MAX), run);
-        if (nessflurry_code_of(run) != NESSFLURRY_GOAL)
-            return nessflurry_code_of(run);
-    } while (next_line(line, lamps, end));
-    return NESSFLURRY_GOAL;
+        const uint64_t answer = try_from_each(line, lamps, end, reached);
+        if (nessflurry_code_of(answer) != NESSFLURRY_GOAL)
+            return answer;
+    } while (next_line(line, lamps, &end));
+    return ending(NESSFLURRY_GOAL, 0);
 }
 
 static uint32_t count_of(const bool reached[BRUTE_PAIRS])
@@ -118,19 +138,16 @@ static void expect_none_up_to(uint16_t longest, const bool reached[BRUTE_PAIRS])
 }
 
 /*
- * What the check owes: by lamp count, then start, then kinds, then end kind, the first failing line, whose lamps are left in
+ * What the check owes: by lamp count, then kinds, then end kind, then start, the first failing line, whose lamps are left in
  * `line`; or the number of pairs reached. The check up to each number of lamps before that line's owes none.
  */
 static uint64_t brute_check(uint8_t line[NESSFLURRY_LINE_SIZE])
 {
     bool reached[BRUTE_PAIRS] = {false};
-    uint8_t end = 0;
     for (uint16_t lamps = 0; lamps <= most_lamps(); lamps++) {
-        for (uint8_t start = 0; start < job.worlds; start++) {
-            const unsigned code = job.starts[start] == 1 ? try_lines(start, lamps, line, &end, reached) : NESSFLURRY_GOAL;
-            if (code != NESSFLURRY_GOAL)
-                return failing(code, start, lamps, end);
-        }
+        const uint64_t answer = try_lines(lamps, line, reached);
+        if (nessflurry_code_of(answer) != NESSFLURRY_GOAL)
+            return answer;
         expect_none_up_to(lamps, reached);
     }
     return ending(NESSFLURRY_ACCEPTED, count_of(reached));
@@ -154,4 +171,10 @@ uint64_t expect_as_brute(void)
     for (uint16_t longest = nessflurry_lamps_of(wanted); longest <= most_lamps(); longest++)
         expect_failure(check_up_to(longest), wanted, line);
     return wanted;
+}
+
+void expect_failed_as_brute(const char *what, uint64_t wanted, const uint8_t *kinds)
+{
+    expect(what, expect_as_brute(), wanted);
+    expect(what, memcmp(lent.line, kinds, nessflurry_lamps_of(wanted)) == 0, true);
 }

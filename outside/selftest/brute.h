@@ -27,4 +27,7 @@ bool next_line(uint8_t line[], uint32_t lamps, uint8_t *end);
  */
 uint64_t expect_as_brute(void);
 
+/* The same, and what the search says is this failure, on a line of these kinds. */
+void expect_failed_as_brute(const char *what, uint64_t wanted, const uint8_t *kinds);
+
 #endif

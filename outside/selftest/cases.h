@@ -14,12 +14,16 @@ void form_cases(void);
 void up_to_cases(void);
 void replay_cases(void);
 void end_kind_cases(void);
+void order_cases(void);
 void sample_cases(void);
 void sum_cases(void);
 void rules_cases(void);
 
 /* Prints how many of its jobs were accepted, and how many failed in which way on how long a line. */
 void random_cases(void);
+
+/* Prints how many failures were told before that of another start, a lower or a higher one, by each reason. */
+void rival_cases(void);
 
 /* Prints how many of its logs were possible, and how many impossible from which entry on. */
 void log_cases(void);

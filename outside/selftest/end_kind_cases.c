@@ -1,17 +1,11 @@
 /*
- * Line ends of several kinds (02, (c)): a job of three, with each of its numbers at its edges, jobs on which another order of
- * failing lines would name another one, and jobs of as many columns as there may be. Each check also stands against all lines.
+ * Line ends of several kinds (02, (c)): a job of three, with each of its numbers at its edges, and jobs of as many columns as there
+ * may be. Each check also stands against all lines.
  */
 #include "brute.h"
 #include "cases.h"
 
 static const uint8_t line[] = {1, 2};
-
-static void expect_failed(const char *what, uint64_t wanted, const uint8_t *lamps)
-{
-    expect(what, expect_as_brute(), wanted);
-    expect(what, memcmp(lent.line, lamps, nessflurry_lamps_of(wanted)) == 0, true);
-}
 
 /* ---- Three end kinds: actions 0 look, 1 next, 2 seal, 3 set the fuse ---- */
 
@@ -37,21 +31,21 @@ static void three_ends_failing(void)
     take_three_ends();
     job.target[0][JOINT_BOX] = NONE;
     write_job();
-    expect_failed("no branch for a joint box", failing(NESSFLURRY_NO_BRANCH, 0, 0, JOINT_BOX), line);
+    expect_failed_as_brute("no branch for a joint box", failing(NESSFLURRY_NO_BRANCH, 0, 0, JOINT_BOX), line);
     job.target[0][JOINT_BOX] = 3;
     write_job();
-    expect_failed("a fuse set in a joint box", failing(NESSFLURRY_NOT_LEGAL, 0, 0, JOINT_BOX), line);
+    expect_failed_as_brute("a fuse set in a joint box", failing(NESSFLURRY_NOT_LEGAL, 0, 0, JOINT_BOX), line);
     take_three_ends();
     job.target[0][FUSE_BOX] = 0;
     write_job();
-    expect_failed("a fuse box looked at for ever", failing(NESSFLURRY_CIRCLES, 0, 0, FUSE_BOX), line);
+    expect_failed_as_brute("a fuse box looked at for ever", failing(NESSFLURRY_CIRCLES, 0, 0, FUSE_BOX), line);
     job.target[0][FUSE_BOX] = 4;
     write_job();
-    expect_failed("a fuse not set", failing(NESSFLURRY_GOAL_FALSE, 0, 0, FUSE_BOX), line);
+    expect_failed_as_brute("a fuse not set", failing(NESSFLURRY_GOAL_FALSE, 0, 0, FUSE_BOX), line);
     take_three_ends();
     job.cells[1][0][THREE_ENDS - 1 + 2] = (struct cell){0, NONE};
     write_job();
-    expect_failed("kind 2 cannot be passed", failing(NESSFLURRY_NOT_LEGAL, 0, 1, CAP), line + 1);
+    expect_failed_as_brute("kind 2 cannot be passed", failing(NESSFLURRY_NOT_LEGAL, 0, 1, CAP), line + 1);
     expect_run("kind 2 cannot be passed, a fuse box", line + 1, 1, FUSE_BOX, 9, ending(NESSFLURRY_NOT_LEGAL, 1));
 }
 
@@ -157,53 +151,6 @@ static void columns(void)
     expect_refused_columns(15, 0, 2);
 }
 
-/* ---- The order of failing lines ---- */
-
-/* Where the end kind were compared before the lamps or the start, a line with end kind 0 would come first. */
-static void lamps_and_start_first(void)
-{
-    const uint8_t higher[] = {1, 0, 1}, shorter[] = {1, 0, 0}, both[] = {0, 0, 1}, starts[] = {1, 0, 1, 0, 1, 1};
-    take_final(1, 1, 2, higher);
-    expect_failed("end kind 1 alone", failing(NESSFLURRY_GOAL_FALSE, 0, 0, 1), line);
-    take_final(1, 1, 2, shorter);
-    expect_failed("end kind 1, or a lamp", failing(NESSFLURRY_GOAL_FALSE, 0, 0, 1), line);
-    take_final(1, 1, 2, both);
-    expect_failed("both end kinds", failing(NESSFLURRY_GOAL_FALSE, 0, 0, 0), line);
-    take_final(2, 1, 2, starts);
-    expect_failed("start 0 with end kind 1, start 1 with 0", failing(NESSFLURRY_GOAL_FALSE, 0, 0, 1), line);
-}
-
-/* State 0 looks, and ends the plan at an end; state 1 moves on, which makes the lamp's kind the world. */
-static void take_kinds_as_worlds(void)
-{
-    job = (struct job){.actions = 2, .worlds = 3, .kinds = 2, .results = 2, .states = 2, .last_end = 1};
-    job.marks[1] = job.starts[0] = 1;
-    memset(job.goal, 1, sizeof job.goal);
-    for (uint8_t world = 0; world < 3; world++)
-        for (uint8_t column = 0; column < columns_of(&job); column++) {
-            const bool end = is_end(&job, column);
-            job.cells[0][world][column] = (struct cell){world, !end};
-            job.cells[1][world][column] = end ? (struct cell){0, NONE} : (struct cell){column - job.last_end, 0};
-        }
-    job.target[0][0] = 2;
-    job.target[0][1] = job.action[1] = 1;
-    job.target[1][1] = NONE;
-}
-
-/* Where the end kind were compared before the kinds, kind 2 would come first. */
-static void kinds_first(void)
-{
-    take_kinds_as_worlds();
-    job.goal[1][1] = job.goal[2][0] = 0;
-    write_job();
-    expect_failed("kind 1 with end kind 1, kind 2 with 0", failing(NESSFLURRY_GOAL_FALSE, 0, 1, 1), line);
-    expect_run("kind 1 with end kind 0", line, 1, 0, 9, ending(NESSFLURRY_GOAL, 3));
-    take_kinds_as_worlds();
-    job.goal[2][0] = job.goal[2][1] = 0;
-    write_job();
-    expect_failed("kind 2 with both end kinds", failing(NESSFLURRY_GOAL_FALSE, 0, 1, 0), line + 1);
-}
-
 /* ---- As many columns as there may be ---- */
 
 /* Every end kind alone. */
@@ -215,7 +162,7 @@ static void each_end(void)
             memset(goal, 1, sizeof goal);
             goal[end] = 0;
             take_final(1, MOST_COLUMNS - ends, ends, goal);
-            expect_failed("one end kind of many", failing(NESSFLURRY_GOAL_FALSE, 0, 0, end), line);
+            expect_failed_as_brute("one end kind of many", failing(NESSFLURRY_GOAL_FALSE, 0, 0, end), line);
         }
 }
 
@@ -228,7 +175,7 @@ static void highest_kind(void)
         memset(goal, 1, sizeof goal);
         goal[MOST_COLUMNS - 1] = 0;
         take_final(1, kind, ends, goal);
-        expect_failed("the highest kind of many", failing(NESSFLURRY_GOAL_FALSE, 0, 1, 0), &kind);
+        expect_failed_as_brute("the highest kind of many", failing(NESSFLURRY_GOAL_FALSE, 0, 1, 0), &kind);
     }
 }
 
@@ -265,8 +212,6 @@ void end_kind_cases(void)
     ends_passed();
     three_ends_damaged();
     columns();
-    lamps_and_start_first();
-    kinds_first();
     each_end();
     highest_kind();
     each_end_passed();

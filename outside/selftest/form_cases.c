@@ -5,6 +5,7 @@
 #include "cases.h"
 #include "job_files/check_answers.h"
 #include "job_files/families.h"
+#include "job_files/rivals.h"
 
 enum { RANDOM_JOBS = 4000, SEED = 20051 };
 
@@ -41,6 +42,10 @@ static void sized_jobs(enum size size)
     const uint64_t random_failure = check_sized(JOB_RANDOM_FAILURE, size);
     expect("a failure over random tables", nessflurry_code_of(random_failure), NESSFLURRY_GOAL_FALSE);
     expect("its end kind", nessflurry_end_of(random_failure), job.last_end);
+    const uint64_t rivals = check_sized(JOB_RIVALS, size);
+    expect("the highest of many starts", nessflurry_start_of(rivals), job.worlds - 2);
+    expect("its lamps", nessflurry_lamps_of(rivals), RIVAL_LAMPS);
+    expect("its end kind", nessflurry_end_of(rivals), job.last_end);
     expect("a long failing line", nessflurry_code_of(check_sized(JOB_LONG_FAILURE, size)), NESSFLURRY_GOAL_FALSE);
     const enum sized_job accepted[] = {JOB_ACCEPTED, JOB_WALK, JOB_WORK, JOB_RANDOM};
     for (size_t i = 0; i < sizeof accepted / sizeof *accepted; i++)

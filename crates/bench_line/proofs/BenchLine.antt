@@ -7,8 +7,9 @@ use Rattle.lamp_line.specs.Refusals.{refusal, answerBy, some-below}
 use Rattle.lamp_line.specs.Run.{act, walk, along, ownSteps}
 use Rattle.lamp_line.specs.Check.{Verdict, Right}
 use Rattle.run_laws.specs.inner.Pairs.{pairNumber, pairOf}
+use Rattle.search_laws.specs.inner.Entries.{endFrom}
 use Rattle.check_laws.specs.inner.Fates.{fate, endsFrom}
-use Rattle.check_laws.specs.inner.Search.{met, tried, labelsFrom, placesFrom, verdictOf}
+use Rattle.check_laws.specs.inner.Search.{met, tried, lowestFrom, membersFrom, kindsFrom, groupsFrom, verdictOf}
 use Rattle.check_laws.proofs.VerdictRight.{verdict-right}
 use Rattle.job_layout.specs.Layout.{head}
 use Rattle.job_layout.specs.JobTables.{tablesOf}
@@ -28,7 +29,7 @@ judged-by-search s v opened e =
     }
 
 pub bench-line : BenchLine
-unfolding blocks planBytes benchJob G G-unflagged G-circling G-no-branch G-final G-test-first G-five columns endKinds lampColumn refusal answerBy some-below rangesWrong numberWrong placeWrong lengthWrong readingOf act walk along ownSteps pairNumber pairOf fate endsFrom met tried labelsFrom placesFrom verdictOf
+unfolding blocks planBytes benchJob G G-unflagged G-circling G-no-branch G-final G-test-first G-five columns endKinds lampColumn refusal answerBy some-below rangesWrong numberWrong placeWrong lengthWrong readingOf act walk along ownSteps pairNumber pairOf fate endsFrom met tried endFrom lowestFrom membersFrom kindsFrom groupsFrom verdictOf
 bench-line =
     record {
       empty-line = refl;

@@ -71,15 +71,15 @@ pub fn false_at_second_end() -> [u8; 39]
     ]
 }
 
-// No program state but the final one, two starts and two kinds of ends: the goal is false for start 0 at the second, for start 1 at the
-// first.
-pub fn ends_of_starts() -> [u8; 49]
+// No program state but the final one, two starts and three columns: the given number of kinds of lamps, the given highest kind of end, and
+// the goal bytes of start 0, then those of start 1.
+pub fn final_at_once(kinds: u8, end: u8, goal: &[u8; 6]) -> [u8; 49]
     ensures { λ r. ⌜ 49 ≡ length r ⌝ }
 {
     [
-        1, 2, 1, 1, 0, 0, 1, 0, 28, 0, 1, 0, 29, 0, 12, 0, 41, 0,
+        1, 2, kinds, 1, 0, 0, end, 0, 28, 0, 1, 0, 29, 0, 12, 0, 41, 0,
         2, 0, 43, 0, 6, 0, 49, 0, 0, 0, 0, 0, 255, 0, 255, 0, 255, 0,
-        255, 0, 255, 0, 255, 1, 1, 1, 0, 1, 0, 1, 1,
+        255, 0, 255, 0, 255, 1, 1, goal[0], goal[1], goal[2], goal[3], goal[4], goal[5],
     ]
 }
 
@@ -95,5 +95,25 @@ pub fn ends_of_kinds() -> [u8; 99]
         0, 255, 0, 255, 1, 0, 2, 0, 0, 255, 0, 255, 1, 0, 1, 0, 0, 255,
         0, 255, 2, 0, 2, 0, 1, 0, 0, 1, 1, 0, 0, 1, 0, 0, 0, 0,
         1, 0, 0, 0, 2, 1, 1, 0, 255,
+    ]
+}
+
+// Peek and next, with a plan that goes to the end, two starts, two kinds of lamps and two kinds of ends: the cells of next are given for
+// start 0 at the two kinds, then for start 1. In world state 2 the goal is false at the second end, in 3 at the first. In 4 next is not
+// legal at kind 2, in 5 at kind 1.
+pub fn two_ways(next: &[u8; 8]) -> [u8; 162]
+    ensures { λ r. ⌜ 162 ≡ length r ⌝ }
+{
+    [
+        2, 6, 2, 2, 2, 0, 1, 0, 28, 0, 2, 0, 30, 0, 96, 0, 126, 0,
+        6, 0, 132, 0, 24, 0, 156, 0, 6, 0, 0, 1, 0, 0, 0, 0, 0, 1,
+        0, 1, 1, 0, 1, 0, 1, 1, 1, 1, 2, 0, 2, 0, 2, 1, 2, 1,
+        3, 0, 3, 0, 3, 1, 3, 1, 4, 0, 4, 0, 4, 1, 4, 1, 5, 0,
+        5, 0, 5, 1, 5, 1, 0, 255, 0, 255, next[0], next[1], next[2], next[3], 0, 255,
+        0, 255, next[4], next[5], next[6], next[7], 0, 255, 0, 255, 2, 0, 2, 0, 0, 255, 0, 255,
+        3, 0, 3, 0, 0, 255, 0, 255, 4, 0, 0, 255, 0, 255, 0, 255, 0, 255,
+        5, 0, 1, 1, 0, 0, 0, 0, 1, 1, 0, 0, 1, 1, 0, 0, 1, 0,
+        0, 0, 0, 1, 0, 0, 1, 1, 0, 0, 1, 1, 0, 0, 0, 2, 1, 1,
+        0, 255,
     ]
 }

@@ -3,9 +3,10 @@
 mod jobs;
 mod kept;
 mod short;
+mod start_last;
 
+ghost use Prim.Native.Nat.{_≤_};
 use crate::jobs::ends_of_kinds;
-use crate::jobs::ends_of_starts;
 use crate::jobs::false_at_second_end;
 use crate::jobs::one_lamp_only;
 use crate::jobs::spoils_or_stops;
@@ -16,6 +17,7 @@ use crate::kept::line_kept;
 use crate::kept::print_all_kept;
 use crate::kept::print_kept;
 use crate::short::short_checks;
+use crate::start_last::start_last;
 use bench_line::bench;
 use bench_line::bench_with;
 use bench_line::five_states;
@@ -65,7 +67,7 @@ fn check(
 }
 
 // Checks a plan with buffers that are large enough for each job of this program.
-fn check_large(name: &[u8], file: &[u8]) {
+pub fn check_large(name: &[u8], file: &[u8]) {
     let mut line = [7u8; 20];
     let mut list = [9u32; 20];
     let mut words = [0u64; 2];
@@ -84,78 +86,53 @@ fn bench_checks() {
     check_large(b"parts two to five one later", &shifted());
 }
 
-// Buffers of the least sizes, and words that are lent full of ones.
-fn enough() {
-    let g = bench();
+// Checks a plan with buffers of the least sizes for bench line G, or smaller, and words of the given content.
+fn check_sizes(name: &[u8], file: &[u8], lamps: usize, numbers: usize, count: usize, content: u64)
+    requires { ⌜ (lamps ≤ 13) × (numbers ≤ 15) × (count ≤ 1) ⌝ }
+{
     let mut line = [7u8; 13];
     let mut list = [9u32; 15];
-    let mut words = [0u64; 1];
+    let mut words = [content; 1];
     check(
+        name,
+        file,
+        &mut line[..lamps],
+        &mut list[..numbers],
+        &mut words[..count],
+        content,
+    );
+}
+
+// Buffers of the least sizes, also with words that are lent full of ones, and buffers that are too small. A refused file is refused with
+// its own number, whatever the buffers.
+fn sizes() {
+    let g = bench();
+    check_sizes(
         b"line buffer 13, working list 15, one word",
         &g,
-        &mut line,
-        &mut list,
-        &mut words,
+        13,
+        15,
+        1,
         0,
     );
-    let mut line = [7u8; 13];
-    let mut list = [9u32; 15];
-    let mut words = [18446744073709551615u64; 1];
-    check(
+    check_sizes(
         b"the same with a word of ones",
         &g,
-        &mut line,
-        &mut list,
-        &mut words,
+        13,
+        15,
+        1,
         18446744073709551615,
     );
-}
-
-// Line buffers that are too small.
-fn small_lines() {
-    let g = bench();
-    let mut line = [7u8; 12];
-    let mut list = [9u32; 15];
-    let mut words = [5u64; 1];
-    check(b"line buffer 12", &g, &mut line, &mut list, &mut words, 5);
-    let mut line = [7u8; 12];
-    let mut list = [9u32; 14];
-    let mut words = [5u64; 0];
-    check(
-        b"all three too small",
-        &g,
-        &mut line,
-        &mut list,
-        &mut words,
-        5,
-    );
-}
-
-// Working lists and words that are too small.
-fn small_lists() {
-    let g = bench();
-    let mut line = [7u8; 13];
-    let mut list = [9u32; 14];
-    let mut words = [5u64; 1];
-    check(b"working list 14", &g, &mut line, &mut list, &mut words, 5);
-    let mut line = [7u8; 13];
-    let mut list = [9u32; 15];
-    let mut words = [5u64; 0];
-    check(b"no words", &g, &mut line, &mut list, &mut words, 5);
-}
-
-// A refused file is refused with its own number, whatever the buffers.
-fn file_first() {
-    let file = bench_with(107, 2);
-    let mut line = [7u8; 0];
-    let mut list = [9u32; 15];
-    let mut words = [5u64; 1];
-    check(
+    check_sizes(b"line buffer 12", &g, 12, 15, 1, 5);
+    check_sizes(b"all three too small", &g, 12, 14, 0, 5);
+    check_sizes(b"working list 14", &g, 13, 14, 1, 5);
+    check_sizes(b"no words", &g, 13, 15, 0, 5);
+    check_sizes(
         b"goal byte 2, no line buffer",
-        &file,
-        &mut line,
-        &mut list,
-        &mut words,
+        &bench_with(107, 2),
+        0,
+        15,
+        1,
         5,
     );
 }
@@ -165,15 +142,12 @@ fn no_states() {
     let mut file = two_starts();
     file[40] = 1;
     file[41] = 1;
-    let mut line = [7u8; 1];
-    let mut list = [9u32; 2];
-    let mut words = [0u64; 1];
-    check(
+    check_sizes(
         b"final at once, line buffer 1, working list 2",
         &file,
-        &mut line,
-        &mut list,
-        &mut words,
+        1,
+        2,
+        1,
         0,
     );
 }
@@ -193,8 +167,8 @@ fn small_jobs() {
     check_large(b"pairs with the final state count", &one_lamp_only());
 }
 
-// Lines that end in several ways. A failure at a lamp is told with the lowest kind of end. The kinds of lamps and the start are compared
-// before the kind of end.
+// Lines that end in several ways. A failure at a lamp is told with the lowest kind of end. The kinds of lamps are compared before the kind
+// of end.
 fn end_kinds() {
     check_large(b"three kinds of ends", &three_ends());
     check_large(b"no branch at the fuse box", &three_ends_with(173, 255));
@@ -206,10 +180,6 @@ fn end_kinds() {
     check_large(
         b"final at once, goal false at the second end",
         &false_at_second_end(),
-    );
-    check_large(
-        b"start 0 at the second end, start 1 at the first",
-        &ends_of_starts(),
     );
     check_large(
         b"kind 1 at the second end, kind 2 at the first",
@@ -237,13 +207,11 @@ fn full_size() {
 
 fn main() {
     bench_checks();
-    enough();
-    small_lines();
-    small_lists();
-    file_first();
+    sizes();
     no_states();
     small_jobs();
     end_kinds();
+    start_last();
     full_size();
     short_checks();
 }

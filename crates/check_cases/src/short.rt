@@ -2,8 +2,10 @@
 // must be kept are kept.
 ghost use Prim.Native.Nat.{_≤_};
 use crate::jobs::ends_of_kinds;
+use crate::jobs::final_at_once;
 use crate::jobs::two_are_too_many;
 use crate::jobs::two_starts;
+use crate::jobs::two_ways;
 use crate::kept::line_kept;
 use crate::kept::print_all_kept;
 use crate::kept::print_kept;
@@ -119,6 +121,17 @@ fn end_kinds() {
     check_large(b"kind 1 at the second end, kind 2 at the first", &job, 1);
 }
 
+// The order is that of the full check, with the start last (02, (f)).
+fn start_last() {
+    let lines = final_at_once(2, 0, &[1, 1, 0, 1, 0, 1]);
+    check_large(b"line before start", &lines, 0);
+    check_large(b"line before start", &lines, 1);
+    let ends = final_at_once(1, 1, &[1, 0, 1, 0, 1, 1]);
+    check_large(b"end before start", &ends, 0);
+    let lamp = two_ways(&[2, 0, 0, 0, 0, 255, 1, 0]);
+    check_large(b"lamp before end", &lamp, 1);
+}
+
 // Checks a plan of bench line G's numbers, with buffers of the least sizes or smaller.
 fn check_sizes(name: &[u8], file: &[u8], longest: u16, lamps: usize, numbers: usize, count: usize)
     requires { ⌜ (lamps ≤ 13) × (numbers ≤ 15) × (count ≤ 1) ⌝ }
@@ -160,5 +173,6 @@ pub fn short_checks() {
     three_pairs();
     one_lamp_or_none();
     end_kinds();
+    start_last();
     sizes();
 }

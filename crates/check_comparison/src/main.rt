@@ -1,16 +1,19 @@
 // The check compared with plain means: a search over all short lines, and a count of the pairs that are reached. The comparison is made on
 // the bench cases of 01 and on many small jobs. On these jobs the short check is compared too, for each number of lamps that the plain
-// search reaches.
+// search reaches, and it is counted in how many of them the line or its end decides before the start.
 mod jobs;
 mod plain_count;
 mod plain_search;
 mod shape;
+mod ties;
 
 use crate::jobs::make_job;
 use crate::plain_count::one_if_equal;
 use crate::plain_count::reached_pairs;
 use crate::plain_search::FirstFailing;
+use crate::plain_search::all_starts;
 use crate::plain_search::first_failing;
+use crate::ties::count_ties;
 use bench_line::bench;
 use bench_line::bench_with;
 use bench_line::five_states;
@@ -109,7 +112,7 @@ fn judge_refused(found: FirstFailing, number: u8) -> u8 {
 // Judges an answer of the check. The plain search tries lines of up to 4 lamps, which is enough for all jobs here.
 fn judge(file: &[u8], answer: CheckAnswer, buffer: &[u8]) -> u8 {
     let mut first = [1u8; 4];
-    let found = first_failing(file, &mut first);
+    let found = first_failing(file, all_starts(file), &mut first);
     match answer {
         CheckAnswer::Accepted(count) => judge_accepted(file, found, count),
         CheckAnswer::Failed(failure) => judge_failure(found, failure, buffer, &first),
@@ -136,7 +139,7 @@ fn judge_short(
     buffer: &[u8],
     first: &mut [u8],
 ) -> u8 {
-    let found = first_failing(file, first);
+    let found = first_failing(file, all_starts(file), first);
     match answer {
         ShortAnswer::NoneUpTo(told) => judge_none(found, longest, told),
         ShortAnswer::Failed(failure) => judge_failure(found, failure, buffer, first),
@@ -291,4 +294,5 @@ fn main() {
     bench_files();
     compare_jobs();
     compare_short_checks();
+    count_ties();
 }

@@ -1,6 +1,5 @@
-// The plain search: it runs every line up to a length from every start with every kind of end, one after the other, and answers the
-// first that fails. Shorter lines come first, then lower starts, then lower kinds of lamps, then lower kinds of ends.
-use crate::shape::Shape;
+// The plain search: it runs every line up to a length with every kind of end from every start, one after the other, and answers the
+// first that fails. Shorter lines come first, then lower kinds of lamps, then lower kinds of ends, and lower starts last (02, (f)).
 use crate::shape::shape_of;
 use lamp_line::Ending;
 use lamp_line::WorldState;
@@ -41,29 +40,51 @@ fn run_end(file: &[u8], start: u8, line: &[u8], end: u8) -> u32 {
     run_number(line_run::run_line(file, WorldState(start), line, end, 4294967295))
 }
 
-// A failing run of a line: the number of its ending, or 0 if none fails, and the line's kind of end.
+// The starts that are tried: those from one number on and below another. Some of them may not be marked.
+pub struct Starts {
+    pub from: u8,
+    pub until: u8,
+}
+
+// A failing run of a line: the number of its ending, or 0 if none fails, its start and the line's kind of end.
 pub struct FailingRun {
     pub number: u32,
+    pub start: u8,
     pub end: u8,
 }
 
-// Runs a line with one kind of end after the other, and answers the first run that fails.
-fn failing_end(file: &[u8], ends: u8, start: u8, line: &[u8]) -> FailingRun {
-    let mut end: u8 = 0;
-    while end < ends {
+// Runs a line with one kind of end from one start after the other, and answers the first run that fails.
+fn failing_start(file: &[u8], starts: Starts, line: &[u8], end: u8) -> FailingRun {
+    let mut start = starts.from;
+    while start < starts.until {
         let number = run_end(file, start, line, end);
         if number != 0 {
             return FailingRun {
                 number: number,
+                start: start,
                 end: end,
             };
         }
-        end += 1;
+        start += 1;
     }
     FailingRun {
-        number: run_end(file, start, line, ends),
-        end: ends,
+        number: 0,
+        start: 0,
+        end: 0,
     }
+}
+
+// Runs a line with one kind of end after the other.
+fn failing_end(file: &[u8], starts: Starts, line: &[u8], ends: u8) -> FailingRun {
+    let mut end: u8 = 0;
+    while end < ends {
+        let run = failing_start(file, starts, line, end);
+        if run.number != 0 {
+            return run;
+        }
+        end += 1;
+    }
+    failing_start(file, starts, line, ends)
 }
 
 // Turns a line into the next one of the same length, as a counter counts; the last line becomes the first again.
@@ -91,45 +112,44 @@ fn lines_of(kinds: u8, lamps: usize) -> u32 {
     lines
 }
 
-// Runs every line of one length from one start, beginning with the given line, and stops at the first that fails. The failing line is
-// left in place.
-fn failing_line(file: &[u8], shape: Shape, start: u8, line: &mut [u8]) -> FailingRun {
+// Runs every line of one length, beginning with the given line, and stops at the first that fails. The failing line is left in place.
+fn failing_line(file: &[u8], starts: Starts, line: &mut [u8]) -> FailingRun {
+    let shape = shape_of(file);
     let lines = lines_of(shape.kinds, line.len());
     let mut number: u32 = 0;
     while number < lines {
-        let run = failing_end(file, shape.ends, start, line);
+        let run = failing_end(file, starts, line, shape.ends);
         if run.number != 0 {
             return run;
         }
         next_line(line, shape.kinds);
         number += 1;
     }
-    FailingRun { number: 0, end: 0 }
-}
-
-// Runs every line of one length from each start.
-fn failing_start(file: &[u8], shape: Shape, line: &mut [u8]) -> FirstFailing {
-    let mut start: u8 = 0;
-    while start < shape.worlds {
-        let run = failing_line(file, shape, start, line);
-        if run.number != 0 {
-            return FirstFailing::Line(run.number, start, line.len(), run.end);
-        }
-        start += 1;
+    FailingRun {
+        number: 0,
+        start: 0,
+        end: 0,
     }
-    FirstFailing::Nothing
 }
 
 // Runs every line that fits into the buffer. The buffer is lent full of 1s, and the line that fails is left at its front.
-pub fn first_failing(file: &[u8], buffer: &mut [u8]) -> FirstFailing {
-    let shape = shape_of(file);
+pub fn first_failing(file: &[u8], starts: Starts, buffer: &mut [u8]) -> FirstFailing {
     let mut lamps = 0;
     while lamps <= buffer.len() {
-        let found = failing_start(file, shape, &mut buffer[..lamps]);
-        if let FirstFailing::Line(number, start, length, end) = found {
-            return found;
+        let run = failing_line(file, starts, &mut buffer[..lamps]);
+        if run.number != 0 {
+            return FirstFailing::Line(run.number, run.start, lamps, run.end);
         }
         lamps += 1;
     }
     FirstFailing::Nothing
+}
+
+// All starts of a job.
+pub fn all_starts(file: &[u8]) -> Starts {
+    let shape = shape_of(file);
+    Starts {
+        from: 0,
+        until: shape.worlds,
+    }
 }

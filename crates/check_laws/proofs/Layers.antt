@@ -1,206 +1,294 @@
--- The search in layers (02, (b)): the lines that are tried at a place have the same number of lamps, and those of a later place have no
--- fewer. So where the lines of up to m lamps were tried and none has failed, the verdict names no line of up to m lamps.
-use mathlib.Core.Path.{_≡_, refl, subst, _∙_}
+-- The search in layers (02, (b)): the groups of a layer have lines of the same length, and those of a later layer longer ones. So where
+-- the lines of up to m lamps were tried and none has failed, the verdict names no line of up to m lamps.
+use mathlib.Core.Path.{_≡_, refl, sym, ap, subst}
 use mathlib.Core.Logic.{_⊎_, inl, inr}
-use mathlib.Core.Bool.{Bool, true, false}
+use mathlib.Core.Bool.{Bool, true, false, cond}
 use mathlib.Core.List.{List, []}
-use Prim.Native.Nat.{ℕ, zero, suc, _+_, _*_, _-_, _≤_, _<_}
-use native.Mathlib.Numerals.{add-one}
+use Prim.Native.Nat.{ℕ, zero, suc, _+_, _-_, _≤_, _<_}
+use native.Mathlib.Decide.{ℕ-discrete}
 use native.Mathlib.Omega.{arith}
-use borrow.Author.Tests.{leb-true}
-use lib.Dec.{leb}
+use borrow.Author.Tests.{ltb-true, eq-eqb}
+use lib.Dec.{ltb}
 use lib.ListN.{length}
 use Rattle.lamp_line.specs.declared.FailureKind.{FailureKind}
-use Rattle.lamp_line.specs.Tables.{Tables, worldState, lampColumn, lineOf}
-use Rattle.lamp_line.specs.Check.{Verdict, failed}
-use Rattle.search_laws.specs.inner.Lists.{_▸_}
-use Rattle.search_laws.specs.inner.Entries.{Entry, node, path, grown}
+use Rattle.lamp_line.specs.Tables.{Tables}
+use Rattle.lamp_line.specs.Check.{Verdict, accepted, failed}
+use Rattle.search_laws.specs.inner.Entries.{Entry, path, opens, grown, endFrom, groupEnd}
 use Rattle.search_laws.proofs.Graph.{snoc-length}
-use Rattle.search_laws.proofs.Grown.{grown-length, grown-all, still-at}
-use Rattle.check_laws.specs.inner.Fates.{NodeFate, succeeds, fails, arrives, AtEnds, good, bad, fate, atEnds}
-use Rattle.check_laws.specs.inner.Search.{Turn, answers, goes-on, andThen, conclusion, Beyond, met, lineStart, lineLamps, lineEntry}
-use Rattle.check_laws.specs.inner.Search.{visited, visit, atStart, atLamp, firstLabel, labels, tried, labelsFrom, placesFrom}
+use Rattle.search_laws.proofs.Grown.{below-or-last, grown-length, grown-all, still-at}
+use Rattle.check_laws.specs.inner.Search.{Turn, answers, goes-on, andThen, conclusion, Beyond, lineLamps, lineEntry, failing}
+use Rattle.check_laws.specs.inner.Search.{Trial, fails-at, quiet, finds, tried, lowestFrom, membersFrom, lineTried, kindsFrom, groupsFrom}
 use Rattle.check_laws.proofs.SearchParts.{Owes, and-then}
-use Rattle.check_laws.proofs.SearchRest.{placesLeft}
+use Rattle.check_laws.proofs.TriedLines.{empty-line-lamps, lamp-line-lamps}
 
--- ---- one label
+-- ---- what holds along a line
 
--- The answer is that the line which is tried at the place h with the label k fails.
-abbrev IsTriedLine : List Entry → ℕ → ℕ → Verdict → Type 0
-IsTriedLine E h k v =
-    (kind : FailureKind) × (end : ℕ) × (v ≡ failed kind (worldState (lineStart E h k)) (lineOf end (lineLamps E h k)))
-
--- The table is the old one, or has one entry more, which was found by that line.
-abbrev GrownBy : List Entry → ℕ → ℕ → List Entry → Type 0
-GrownBy E h k E′ = (E′ ≡ E) ⊎ ((y : ℕ) × (E′ ≡ grown E (lineEntry E h k y)))
-
-module _ (t : Tables) where
-  -- Nothing else comes of trying a label.
-  tried-so : (E : List Entry) (h k : ℕ) → Owes (IsTriedLine E h k) (GrownBy E h k) (tried t E h k)
-  unfolding tried
-  tried-so E h k = at h
+-- A property P of the table is kept where a member of the line finds a pair, and gives Q where one fails. Then what comes of trying the
+-- line has the one or the other.
+module _
+    (t : Tables) (before a b k : ℕ) (P : List Entry → Type 0) (Q : Verdict → Type 0)
+    (grows : (E : List Entry) (i y : ℕ) → a ≤ i → i < b → P E → P (grown E (lineEntry before E i k y)))
+    (stops : (E : List Entry) (kind : FailureKind) (w end : ℕ) → a ≤ w → w < b → P E → Q (failing E k kind w end)) where
+  lowest-all :
+      (n : ℕ) (E : List Entry) (i : ℕ) (kind : FailureKind) (w end : ℕ) → a ≤ i → i + n ≤ b → a ≤ w → w < b → P E →
+      Q (lowestFrom t n E i k kind w end)
+  unfolding lowestFrom
+  lowest-all zero E i kind w end from to w-from w-to holds = stops E kind w end w-from w-to holds
+  lowest-all (suc n) E i kind w end from to w-from w-to holds =
+      go (λ kind w end w-from w-to. lowest-all n E (i + 1) kind w end (omega arith) (omega arith) w-from w-to holds) (tried t E i k)
     where
-      visits : (h y : ℕ) → Owes (IsTriedLine E h k) (GrownBy E h k) (visit t E (lineEntry E h k y))
-      visits h y = go (met E y) (atEnds t y)
-        where
-          go : (b : Bool) (ends : AtEnds) → Owes (IsTriedLine E h k) (GrownBy E h k) (visited E (lineEntry E h k y) b ends)
-          go true ends = inl refl
-          go false good = inr (y, refl)
-          go false (bad end kind) = (kind, end, refl)
+      After : Type 0
+      After = (kind : FailureKind) (w end : ℕ) → a ≤ w → w < b → Q (lowestFrom t n E (i + 1) k kind w end)
 
-      starts : (b : Bool) → Owes (IsTriedLine E zero k) (GrownBy E zero k) (atStart t E k b)
-      starts false = inl refl
-      starts true = visits zero _
+      either :
+          After → (kind′ : FailureKind) (end′ : ℕ) (lower : Bool) →
+          Q (cond lower (lowestFrom t n E (i + 1) k kind′ i end′) (lowestFrom t n E (i + 1) k kind w end))
+      either after kind′ end′ true = after kind′ i end′ from (omega arith)
+      either after kind′ end′ false = after kind w end w-from w-to
 
-      lamps : (h : ℕ) (v : NodeFate) → Owes (IsTriedLine E (suc h) k) (GrownBy E (suc h) k) (atLamp t E h k v)
-      lamps h succeeds = inl refl
-      lamps h (fails kind) = (kind, 0, refl)
-      lamps h (arrives y) = visits (suc h) y
+      go :
+          After → (r : Trial) →
+          Q (elim r as (λ _. Verdict) [
+            | fails-at kind′ end′ ↦
+                cond (ltb end′ end) (lowestFrom t n E (i + 1) k kind′ i end′) (lowestFrom t n E (i + 1) k kind w end)
+            | quiet ↦ lowestFrom t n E (i + 1) k kind w end
+            | finds y ↦ lowestFrom t n E (i + 1) k kind w end
+          ])
+      go after (fails-at kind′ end′) = either after kind′ end′ (ltb end′ end)
+      go after quiet = after kind w end w-from w-to
+      go after (finds y) = after kind w end w-from w-to
 
-      at : (h : ℕ) → Owes (IsTriedLine E h k) (GrownBy E h k) (tried t E h k)
-      at zero = starts (t .start (worldState k))
-      at (suc h) = lamps h (fate t (node E h) (lampColumn (t .ends) k))
-
--- ---- the places that are left
-
--- The entries from h on have at least m lamps.
-abbrev LongFrom : ℕ → ℕ → List Entry → Type 0
-LongFrom m h E = (i : ℕ) → h ≤ i → i < length E → m ≤ length (path E i)
-
-module _ (t : Tables) (m : ℕ) where
-  -- The entry h is in the table, and it and the later ones have at least m lamps.
-  abbrev Long : ℕ → List Entry → Type 0
-  Long h E = (h < length E) × LongFrom m h E
-
-  -- A line that is tried there has more than m lamps, and so has an entry that it adds.
-  tried-long : (E : List Entry) (h k : ℕ) → Long h E → Owes (Beyond m) (Long h) (tried t E (suc h) k)
-  tried-long E h k (there, long) = go (tried t E (suc h) k) (tried-so t E (suc h) k)
-    where
-      more : m < length (path E h ▸ k)
-      more = omega (arith, long h (omega arith) there, snoc-length (path E h) k)
-
-      go : (r : Turn) → Owes (IsTriedLine E (suc h) k) (GrownBy E (suc h) k) r → Owes (Beyond m) (Long h) r
-      go (answers v) (kind, end, e) = rw e more
-      go (goes-on E′) (inl e) = rw e (there, long)
-      go (goes-on E′) (inr (y, e)) =
-          let z = lineEntry E (suc h) k y in
-          rw e (
-            omega (arith, grown-length E z),
-            λ i from in-table.
-                grown-all E z (λ j v. h ≤ j → m ≤ length (v .path)) (λ j l from. long j from l) (λ from. omega (arith, more)) i in-table from,
-          )
-
-  labels-long : (n : ℕ) (E : List Entry) (h k : ℕ) → Long h E → Owes (Beyond m) (Long h) (labelsFrom t n E (suc h) k)
-  unfolding labelsFrom
-  labels-long zero E h k long = long
-  labels-long (suc n) E h k long =
-      and-then (Beyond m) (Long h) (Long h) (tried t E (suc h) k) (λ E′. labelsFrom t n E′ (suc h) (k + 1)) (tried-long E h k long)
-      (λ E′ long′. labels-long n E′ h (k + 1) long′)
-
-  places-long : (n : ℕ) (E : List Entry) (h : ℕ) → LongFrom m h E → Owes (Beyond m) (λ E′. Unit {0}) (placesFrom t n E (suc h))
-  unfolding placesFrom
-  places-long zero E h long = tt
-  places-long (suc n) E h long = go (λ E′ long′. places-long n E′ (suc h) long′) (leb (suc h) (length E)) refl
+  members-all : (n : ℕ) (E : List Entry) (i : ℕ) → a ≤ i → i + n ≤ b → P E → Owes Q P (membersFrom t n before E i k)
+  unfolding membersFrom
+  members-all zero E i from to holds = holds
+  members-all (suc n) E i from to holds =
+      go (λ E′ holds′. members-all n E′ (i + 1) (omega arith) (omega arith) holds′) (tried t E i k)
     where
       go :
-          ((E′ : List Entry) → LongFrom m (suc h) E′ → Owes (Beyond m) (λ E″. Unit {0}) (placesFrom t n E′ (suc (suc h)))) →
-          (b : Bool) → leb (suc h) (length E) ≡ b →
-          Owes (Beyond m) (λ E′. Unit {0}) (elim b as (λ _. Turn) [
+          ((E′ : List Entry) → P E′ → Owes Q P (membersFrom t n before E′ (i + 1) k)) → (r : Trial) →
+          Owes Q P (elim r as (λ _. Turn) [
+            | fails-at kind end ↦ answers (lowestFrom t n E (i + 1) k kind i end)
+            | quiet ↦ membersFrom t n before E (i + 1) k
+            | finds y ↦ membersFrom t n before (grown E (lineEntry before E i k y)) (i + 1) k
+          ])
+      go after (fails-at kind end) = lowest-all n E (i + 1) kind i end (omega arith) (omega arith) from (omega arith) holds
+      go after quiet = after E holds
+      go after (finds y) = after (grown E (lineEntry before E i k y)) (grows E i y from (omega arith) holds)
+
+-- ---- the groups that are left
+
+-- A group ends within the table.
+end-within : (n : ℕ) (E : List Entry) (i : ℕ) → (i ≤ endFrom n E i) × (endFrom n E i ≤ i + n)
+unfolding endFrom
+end-within zero E i = (omega arith, omega arith)
+end-within (suc n) E i = go (end-within n E (i + 1)) (opens E i)
+  where
+    go :
+        (i + 1 ≤ endFrom n E (i + 1)) × (endFrom n E (i + 1) ≤ i + 1 + n) → (o : Bool) →
+        (i ≤ cond o i (endFrom n E (i + 1))) × (cond o i (endFrom n E (i + 1)) ≤ i + suc n)
+    go (low, high) true = (omega arith, omega arith)
+    go (low, high) false = (omega arith, omega arith)
+
+-- It ends no later than an entry that opens another one.
+end-no-later :
+    (E : List Entry) (last : ℕ) → (last < length E → opens E last ≡ true) →
+    (n i : ℕ) → i + n ≡ length E → i ≤ last → endFrom n E i ≤ last
+unfolding endFrom
+end-no-later E last opened zero i e le = le
+end-no-later E last opened (suc n) i e le = go (end-no-later E last opened n (i + 1) (omega arith)) (ℕ-discrete i last)
+  where
+    by : (o : Bool) → (i + 1 ≤ last → endFrom n E (i + 1) ≤ last) → i + 1 ≤ last → cond o i (endFrom n E (i + 1)) ≤ last
+    by true after l = le
+    by false after l = after l
+
+    go : (i + 1 ≤ last → endFrom n E (i + 1) ≤ last) → Dec (i ≡ last) → cond (opens E i) i (endFrom n E (i + 1)) ≤ last
+    go after (yes is) = rw (is, opened (omega arith)) (omega arith)
+    go after (no other) = by (opens E i) after (omega arith)
+
+-- It comes after its first entry.
+pub group-within : (E : List Entry) (a : ℕ) → a < length E → (a < groupEnd E a) × (groupEnd E a ≤ length E)
+group-within E a l = let (low, high) = end-within (length E - (a + 1)) E (a + 1) in (omega arith, omega arith)
+
+module _ (t : Tables) (m : ℕ) where
+  -- The table has at least b entries, and those from a on have at least m lamps.
+  abbrev Long : ℕ → ℕ → List Entry → Type 0
+  Long a b E = (b ≤ length E) × ((i : ℕ) → a ≤ i → i < length E → m ≤ length (path E i))
+
+  -- A group of these entries is tried with one more lamp: the lines have more than m lamps, and so have the entries that are found.
+  line-long :
+      (E : List Entry) (a b k : ℕ) → a ≤ b → 1 ≤ k → Long a b E → Owes (Beyond m) (Long a b) (lineTried t E a b k)
+  line-long E a b k in-order lamp long =
+      members-all t (length E) a b k (Long a b) (Beyond m) grows stops (b - a) E a (omega arith) (omega arith) long
+    where
+      longer : (E : List Entry) (i : ℕ) → a ≤ i → i < b → Long a b E → m < length (lineLamps E i k)
+      longer E i from to (within, long) =
+          omega (arith, long i from (omega arith), ap length (lamp-line-lamps E i k lamp), snoc-length (path E i) k)
+
+      grows : (E′ : List Entry) (i y : ℕ) → a ≤ i → i < b → Long a b E′ → Long a b (grown E′ (lineEntry (length E) E′ i k y))
+      grows E′ i y from to (within, long) =
+          let z = lineEntry (length E) E′ i k y in
+          let more = longer E′ i from to (within, long) in (
+            omega (arith, grown-length E′ z),
+            λ j x l. grown-all E′ z (λ j v. a ≤ j → m ≤ length (v .path)) (λ j l x. long j x l) (λ x. omega arith) j l x,
+          )
+
+      stops : (E : List Entry) (kind : FailureKind) (w end : ℕ) → a ≤ w → w < b → Long a b E → Beyond m (failing E k kind w end)
+      stops E kind w end from to long = longer E w from to long
+
+  kinds-long :
+      (n : ℕ) (E : List Entry) (a b k : ℕ) → a ≤ b → 1 ≤ k → Long a b E → Owes (Beyond m) (Long a b) (kindsFrom t n E a b k)
+  unfolding kindsFrom
+  kinds-long zero E a b k in-order lamp long = long
+  kinds-long (suc n) E a b k in-order lamp long =
+      and-then (Beyond m) (Long a b) (Long a b) (lineTried t E a b k) (λ E′. kindsFrom t n E′ a b (k + 1))
+      (line-long E a b k in-order lamp long) (λ E′ long′. kinds-long n E′ a b (k + 1) in-order (omega arith) long′)
+
+  groups-long : (n : ℕ) (E : List Entry) (a : ℕ) → Long a 0 E → Owes (Beyond m) (λ E′. Unit {0}) (groupsFrom t n E a)
+  unfolding groupsFrom
+  groups-long zero E a long = tt
+  groups-long (suc n) E a (within, long) = go (λ E′ b long′. groups-long n E′ b long′) (ltb a (length E)) refl
+    where
+      go :
+          ((E′ : List Entry) (b : ℕ) → Long b 0 E′ → Owes (Beyond m) (λ E″. Unit {0}) (groupsFrom t n E′ b)) →
+          (some : Bool) → ltb a (length E) ≡ some →
+          Owes (Beyond m) (λ E′. Unit {0}) (elim some as (λ _. Turn) [
             | false ↦ goes-on E
-            | true ↦ andThen (labelsFrom t (labels t (suc h)) E (suc h) (firstLabel (suc h))) (λ E′. placesFrom t n E′ (suc h + 1))
+            | true ↦ andThen (kindsFrom t (t .kinds) E a (groupEnd E a) 1) (λ E′. groupsFrom t n E′ (groupEnd E a))
           ])
       go after false e = tt
       go after true e =
-          and-then (Beyond m) (Long h) (λ E′. Unit {0}) (labelsFrom t (t .kinds) E (suc h) 1) (λ E′. placesFrom t n E′ (suc h + 1))
-          (labels-long (t .kinds) E h 1 (leb-true (suc h) (length E) e, long))
-          (λ E′ (there, long′). rw add-one (after E′ (λ i from l. long′ i (omega arith) l)))
+          let (low, high) = group-within E a (ltb-true a (length E) e) in
+          and-then (Beyond m) (Long a (groupEnd E a)) (λ E′. Unit {0}) (kindsFrom t (t .kinds) E a (groupEnd E a) 1)
+          (λ E′. groupsFrom t n E′ (groupEnd E a))
+          (kinds-long (t .kinds) E a (groupEnd E a) 1 (omega arith) (omega arith) (high, long))
+          (λ E′ (within′, long′). after E′ (groupEnd E a) (omega arith, λ i x l. long′ i (omega arith) l))
 
-  -- If the entries from h on have at least m lamps, the places after h name no line of up to m lamps.
-  pub rest-beyond : (E : List Entry) (h : ℕ) → LongFrom m h E → Beyond m (conclusion (placesLeft t E (h + 1)))
-  unfolding placesLeft
-  rest-beyond E h long =
-      let n = (t .states + 1) * t .worlds + 1 - suc h in
-      rw (add-one h) (go (placesFrom t n E (suc h)) (places-long n E h long))
+  -- If the entries from a on have at least m lamps, their groups name no line of up to m lamps.
+  rest-beyond :
+      (n : ℕ) (E : List Entry) (a : ℕ) → ((i : ℕ) → a ≤ i → i < length E → m ≤ length (path E i)) →
+      Beyond m (conclusion (groupsFrom t n E a))
+  rest-beyond n E a long = go (groupsFrom t n E a) (groups-long n E a (omega arith, long))
     where
       go : (r : Turn) → Owes (Beyond m) (λ E′. Unit {0}) r → Beyond m (conclusion r)
       go (answers v) beyond = beyond
       go (goes-on E′) none = tt
 
--- ---- the layer of a place
+-- ---- the layer of a group
 
--- The search is at the place h. The lines that are tried there and at the places after it, up to the place `last`, have this number of
--- lamps; and so have the entries from `last` on, which were found by such lines.
+-- The entries from h to `last` are left to be tried in this layer. Their lines with one more lamp have this number of lamps, and so have
+-- the entries from `last` on, which were found by such lines; the first of them opens a group.
 pub record Layer (E : List Entry) (h last lamps : ℕ) : Type 0 where
-  pub to-try : (i : ℕ) → h ≤ i + 1 → i < last → length (path E i) + 1 ≡ lamps
+  pub to-try : (i : ℕ) → h ≤ i → i < last → length (path E i) + 1 ≡ lamps
   pub found : (i : ℕ) → last ≤ i → i < length E → length (path E i) ≡ lamps
-  -- At place 0 the line is empty, and with each place there is at most one lamp more.
-  pub few : lamps ≤ h
+  pub opened : last < length E → opens E last ≡ true
   pub within : h ≤ last
   pub in-table : last ≤ length E
 
--- Place 0 is a layer of its own.
+-- The empty line comes first: it has no lamps, and there is no entry before it.
 pub first-layer : Layer [] 0 0 0
 first-layer =
     record {
       to-try = λ i from l. absurd (omega arith);
       found = λ i from l. absurd (omega arith);
-      few = omega arith;
+      opened = λ l. absurd (omega arith);
       within = omega arith;
       in-table = omega arith;
     }
 
+-- A line that is tried in the layer has this member: it is the empty line, or the member is left to be tried.
+pub record InLayer (h last lamps k i : ℕ) : Type 0 where
+  pub empty : k ≡ 0 → lamps ≡ 0
+  pub left : 1 ≤ k → (h ≤ i) × (i < last)
+
+-- It has this number of lamps.
+pub lamps-here :
+    {E : List Entry} {h last lamps : ℕ} → Layer E h last lamps → {k i : ℕ} → InLayer h last lamps k i → length (lineLamps E i k) ≡ lamps
+lamps-here {E} {h} {last} {lamps} layer {k} {i} here = go (below-or-last 0 k (omega arith))
+  where
+    go : (0 < k) ⊎ (0 ≡ k) → length (lineLamps E i k) ≡ lamps
+    go (inr none) = omega (arith, ap length (empty-line-lamps E i k (sym none)), here .empty (sym none))
+    go (inl lamp) =
+        let (from, to) = here .left lamp in
+        omega (arith, ap length (lamp-line-lamps E i k lamp), snoc-length (path E i) k, layer .to-try i from to)
+
+-- The verdict names a line of this number of lamps, if it names one.
+abbrev HasLamps : ℕ → Verdict → Type 0
+HasLamps lamps (accepted count) = Unit {0}
+HasLamps lamps (failed kind start line) = length (line .lamps) ≡ lamps
+
+-- A line of the layer is tried from the members from a to b.
+module _
+    (t : Tables) {E : List Entry} {h last lamps a b k : ℕ} (layer : Layer E h last lamps) (in-order : a ≤ b)
+    (here : (i : ℕ) → a ≤ i → i < b → InLayer h last lamps k i) where
+  abbrev Holds : List Entry → Type 0
+  Holds F = Layer F h last lamps × (length E ≤ length F)
+
+  line-owes : Owes (HasLamps lamps) Holds (lineTried t E a b k)
+  line-owes =
+      members-all t (length E) a b k Holds (HasLamps lamps) grows (λ F kind w end from to (layered, more). lamps-here layered (here w from to))
+      (b - a) E a (omega arith) (omega arith) (layer, omega arith)
+    where
+      grows : (F : List Entry) (i y : ℕ) → a ≤ i → i < b → Holds F → Holds (grown F (lineEntry (length E) F i k y))
+      grows F i y from to (layered, more) = (
+        record {
+          to-try = λ j x l.
+              still-at F z j (omega (arith, layered .in-table)) (λ v. length (v .path) + 1 ≡ lamps) (layered .to-try j x l);
+          found = λ j x l.
+              grown-all F z (λ j v. last ≤ j → length (v .path) ≡ lamps) (λ j l x. layered .found j x l)
+              (λ x. lamps-here layered (here i from to)) j l x;
+          opened = λ l.
+              grown-all F z (λ j v. j ≡ last → v .opens ≡ true)
+              (λ j l x. rw x (layered .opened (omega arith)))
+              (λ x. eq-eqb (length F) (length E) (omega (arith, layer .in-table))) last l refl;
+          within = layered .within;
+          in-table = omega (arith, layered .in-table, grown-length F z);
+        },
+        omega (arith, grown-length F z),
+      )
+        where
+          z : Entry
+          z = lineEntry (length E) F i k y
+
+  -- It does not fail: the layer stays.
+  pub line-in-layer : {E′ : List Entry} → lineTried t E a b k ≡ goes-on E′ → Layer E′ h last lamps
+  line-in-layer e = subst (Owes (HasLamps lamps) Holds) e line-owes .0
+
+  -- It fails: it has the layer's number of lamps.
+  pub line-length :
+      (E′ : List Entry) (w : ℕ) {kind : FailureKind} {end : ℕ} → lineTried t E a b k ≡ answers (failing E′ k kind w end) →
+      length (lineLamps E′ w k) ≡ lamps
+  line-length E′ w e = subst (Owes (HasLamps lamps) Holds) e line-owes
+
 module _ {E : List Entry} {h last lamps : ℕ} (layer : Layer E h last lamps) where
-  -- The lines of the place have this number of lamps.
-  pub lamps-here : (k : ℕ) → length (lineLamps E h k) ≡ lamps
-  lamps-here k = go h refl
-    where
-      go : (i : ℕ) → h ≡ i → length (lineLamps E i k) ≡ lamps
-      go zero e = omega (arith, layer .few)
-      go (suc i) e = snoc-length (path E i) k ∙ layer .to-try i (omega arith) (omega (arith, layer .within))
+  -- A group of the layer ends within it.
+  pub group-in-layer : h < last → groupEnd E h ≤ last
+  group-in-layer l =
+      end-no-later E last (layer .opened) (length E - (h + 1)) (h + 1) (omega (arith, layer .in-table)) (omega arith)
 
-  -- Another label is tried at the place.
-  pub layer-tried : (t : Tables) (k : ℕ) {E′ : List Entry} → tried t E h k ≡ goes-on E′ → Layer E′ h last lamps
-  layer-tried t k {E′} e = go (subst (Owes (IsTriedLine E h k) (GrownBy E h k)) e (tried-so t E h k))
-    where
-      go : GrownBy E h k E′ → Layer E′ h last lamps
-      go (inl same) = rw same layer
-      go (inr (y, more)) =
-          let z = lineEntry E h k y in
-          rw more
-          (record {
-            to-try = λ i from l.
-                still-at E z i (omega (arith, layer .in-table)) (λ v. length (v .path) + 1 ≡ lamps) (layer .to-try i from l);
-            found = λ i from l.
-                grown-all E z (λ j v. last ≤ j → length (v .path) ≡ lamps) (λ j l from. layer .found j from l)
-                (λ from. lamps-here k) i l from;
-            few = layer .few;
-            within = layer .within;
-            in-table = omega (arith, layer .in-table, grown-length E z);
-          })
-
-  -- The next place is of the same layer.
-  pub same-layer : h < last → Layer E (h + 1) last lamps
-  same-layer l =
+  -- The entries up to b were tried.
+  pub next-in-layer : (b : ℕ) → h ≤ b → b ≤ last → Layer E b last lamps
+  next-in-layer b low high =
       record {
         to-try = λ i from l. layer .to-try i (omega arith) l;
         found = layer .found;
-        few = omega (arith, layer .few);
-        within = omega arith;
+        opened = layer .opened;
+        within = high;
         in-table = layer .in-table;
       }
 
+  -- All of them were tried.
   module _ (end : h ≡ last) where
-    -- The next place is of the next layer, whose lines have one lamp more.
-    pub next-layer : h < length E → Layer E (h + 1) (length E) (lamps + 1)
-    next-layer l =
+    -- The entries that were found are the next layer, whose lines have one lamp more.
+    pub next-layer : Layer E h (length E) (lamps + 1)
+    next-layer =
         record {
           to-try = λ i from l. omega (arith, layer .found i (omega arith) l);
           found = λ i from l. absurd (omega arith);
-          few = omega (arith, layer .few);
-          within = omega arith;
+          opened = λ l. absurd (omega arith);
+          within = omega (arith, layer .in-table);
           in-table = omega arith;
         }
 
-    -- The places after it name no line of so many lamps.
-    pub layer-beyond : (t : Tables) → Beyond lamps (conclusion (placesLeft t E (h + 1)))
-    layer-beyond t = rest-beyond t lamps E h (λ i from l. omega (arith, layer .found i (omega arith) l))
+    -- Their groups name no line of so many lamps.
+    pub layer-beyond : (t : Tables) (n : ℕ) → Beyond lamps (conclusion (groupsFrom t n E h))
+    layer-beyond t n = rest-beyond t lamps n E h (λ i from l. omega (arith, layer .found i (omega arith) l))

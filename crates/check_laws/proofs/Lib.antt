@@ -14,5 +14,6 @@ pub mod SearchParts
 pub mod SearchRest
 pub mod TableGraph
 pub mod TableTurns
+pub mod TriedLines
 pub mod UpTo
 pub mod VerdictRight

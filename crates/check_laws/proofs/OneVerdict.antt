@@ -4,6 +4,7 @@ use mathlib.Core.Path.{_≡_, refl, sym, ap, ap₂, subst₂}
 use mathlib.Core.List.{List, [], _∷_, _++_}
 use Prim.Native.Nat.{ℕ}
 use native.Mathlib.Omega.{arith}
+use lib.ListN.{length}
 use Rattle.lamp_line.specs.declared.WorldState.{WorldState}
 use Rattle.lamp_line.specs.declared.FailureKind.{FailureKind}
 use Rattle.lamp_line.specs.declared.Ending.the-variants.{Goal, Failure}
@@ -16,17 +17,15 @@ use Rattle.lamp_line.proofs.Counting.{number-once}
 use Rattle.search_laws.proofs.Lex.{≼-antisym}
 use Rattle.check_laws.proofs.RunLeads.{leads-run}
 
--- Lists that are equal with one number added at the end are equal, and so are the numbers.
-snoc-same : {m n : ℕ} (l l′ : List ℕ) → l ++ (m ∷ []) ≡ l′ ++ (n ∷ []) → (l ≡ l′) × (m ≡ n)
-snoc-same [] [] e = (refl, cc)
-snoc-same [] (b ∷ []) e = absurd (let z : _≡_ {A = ℕ} 0 1 = cc in omega arith)
-snoc-same [] (b ∷ c ∷ l′) e = absurd (let z : _≡_ {A = ℕ} 0 1 = cc in omega arith)
-snoc-same (a ∷ []) [] e = absurd (let z : _≡_ {A = ℕ} 0 1 = cc in omega arith)
-snoc-same (a ∷ c ∷ l) [] e = absurd (let z : _≡_ {A = ℕ} 0 1 = cc in omega arith)
-snoc-same {m} {n} (a ∷ l) (b ∷ l′) e =
-    let (same, last) = snoc-same {m = m} {n = n} l l′ (cc) in
+-- Lists that begin with parts of the same length are equal only if these parts are, and what follows them.
+parts-same : {x y : List ℕ} (l m : List ℕ) → length l ≡ length m → l ++ x ≡ m ++ y → (l ≡ m) × (x ≡ y)
+parts-same [] [] same e = (refl, e)
+parts-same [] (b ∷ m) same e = absurd (omega arith)
+parts-same (a ∷ l) [] same e = absurd (omega arith)
+parts-same {x} {y} (a ∷ l) (b ∷ m) same e =
     let first : a ≡ b = cc in
-    (ap₂ (λ (i : ℕ) (k : List ℕ). i ∷ k) first same, last)
+    let (rest, after) = parts-same {x = x} {y = y} l m (omega arith) (cc) in
+    (ap₂ (λ (i : ℕ) (k : List ℕ). i ∷ k) first rest, after)
 
 module _ (t : Tables) (wf : WellFormed t) where
   -- A line whose execution leads to Goal does not fail.
@@ -65,9 +64,11 @@ module _ (t : Tables) (wf : WellFormed t) where
       let same-rank =
       ≼-antisym (rank t start line) (rank t start′ line′)
       (c .first kind′ start′ line′ (c′ .fails)) (c′ .first kind start line (c .fails)) in
+      let same-count : length (line .lamps) ≡ length (line′ .lamps) = cc in
+      let same-rest : line .lamps ++ (line .end ∷ start .0 ∷ []) ≡ line′ .lamps ++ (line′ .end ∷ start′ .0 ∷ []) = cc in
+      let (same-lamps, same-tail) = parts-same (line .lamps) (line′ .lamps) same-count same-rest in
+      let same-end : line .end ≡ line′ .end = cc in
       let same-number : start .0 ≡ start′ .0 = cc in
-      let same-kinds : line .lamps ++ (line .end ∷ []) ≡ line′ .lamps ++ (line′ .end ∷ []) = cc in
-      let (same-lamps, same-end) = snoc-same (line .lamps) (line′ .lamps) same-kinds in
       let same-start : start ≡ start′ = ap worldState same-number in
       let same-line : line ≡ line′ = ap₂ lineOf same-end same-lamps in
       let d′ = subst₂ (Fails t kind′) (sym same-start) (sym same-line) (c′ .fails) in

@@ -2,6 +2,7 @@
 -- plan is correct and the entries of the table are the reached pairs.
 use mathlib.Core.Path.{_≡_, sym, ap, subst, _∙_}
 use mathlib.Core.Logic.{⊎-elim}
+use mathlib.Core.Bool.{true}
 use mathlib.Core.List.{List, [], map}
 use Prim.Native.Nat.{ℕ, _+_, _*_, _≤_, _<_}
 use native.Mathlib.Omega.{arith}
@@ -61,7 +62,7 @@ module _ (t : Tables) (wf : WellFormed t) where
 
   -- ---- the table of a search that is complete
 
-  module _ (E : List Entry) (h : ℕ) (at : At (graph t) E h (t .kinds + 1)) (end : length E ≤ h + 1) where
+  module _ {E : List Entry} {a b : ℕ} (at : At (graph t) E a b (t .kinds + 1)) (end : length E ≤ b) where
     pairAt : Entry → Pair
     pairAt v = pairOf (t .worlds) (v .node)
 
@@ -79,15 +80,15 @@ module _ (t : Tables) (wf : WellFormed t) where
     unfolding pairAt
     reached-listed p r =
         let (s, pre, reach) = reached-in-graph t wf p r in
-        let (j, l, is) = reached-in-table (graph t) E h at end reach in
+        let (j, l, is) = reached-in-table at end reach in
         let range = execution-in-range t wf (r .execution) (start-in-range t wf (r .start) (r .beginning .marked)) in
         let same = ap (pairOf (t .worlds)) is ∙ pair-of-number (t .worlds) p (range .world-range) in
-        subst (λ (q : Pair). q ∈ map pairAt E) same (at-place-in pairAt (entry 0 0 []) E j l)
+        subst (λ (q : Pair). q ∈ map pairAt E) same (at-place-in pairAt (entry 0 0 [] true) E j l)
 
     listed-reached : (p : Pair) → p ∈ map pairAt E → Reached t p
     unfolding pairAt
     listed-reached p m =
-        let (i, l, e) = in-at-place pairAt (entry 0 0 []) E p m in
+        let (i, l, e) = in-at-place pairAt (entry 0 0 [] true) E p m in
         subst (Reached t) (sym e) (entry-reached i l .1)
 
     -- The plan is accepted with the number of entries.
@@ -95,11 +96,11 @@ module _ (t : Tables) (wf : WellFormed t) where
     unfolding pairAt
     table-right =
         record {
-          correct = none-fails-correct (accepted (graph t) E h at end);
+          correct = none-fails-correct (accepted at end);
           counted = record {
             listed = map pairAt E;
             exactly = λ p. (reached-listed p, listed-reached p);
-            once = distinct-by-places pairAt (entry 0 0 []) E (λ i j k l e.
+            once = distinct-by-places pairAt (entry 0 0 [] true) E (λ i j k l e.
                 at .inv .distinct i j k l
                 (sym (entry-reached i (omega arith) .0) ∙ ap (pairNumber (t .worlds)) e ∙ entry-reached j l .0));
             number = length-map E pairAt;

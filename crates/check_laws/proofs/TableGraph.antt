@@ -59,7 +59,6 @@ module _ (t : Tables) where
           to-one = λ x c y y′ e e′. (cc);
           bad-one = λ x c. fails-once x (lampColumn (t .ends) c);
           bad-to = λ x c f y (kind, e, n) e′. let z : _≡_ {A = ℕ} 0 1 = cc in omega arith;
-          end-one = λ x e. fails-once x e;
         }
 
     -- An edge leads from a pair of the tables that is not final to a pair of the tables.

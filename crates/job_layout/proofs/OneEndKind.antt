@@ -55,28 +55,27 @@ some-below-one test n one = rw one (at (test 0))
 
 -- ---- the order
 
--- Lists of the same length are in order with one number added to both exactly when they are in order.
-snoc-order : (e : ℕ) (l m : List ℕ) → length l ≡ length m → ((l ++ (e ∷ [])) ≼ (m ++ (e ∷ []))) ↔ (l ≼ m)
+-- After lists of the same length, a number that both have makes no difference.
+between :
+    (e : ℕ) (l m x y : List ℕ) → length l ≡ length m → ((l ++ (e ∷ x)) ≼ (m ++ (e ∷ y))) ↔ ((l ++ x) ≼ (m ++ y))
 unfolding _≼_
-snoc-order e [] [] same = (λ h. tt, λ h. inr (refl, tt))
-snoc-order e [] (b ∷ m) same = absurd (omega arith)
-snoc-order e (a ∷ l) [] same = absurd (omega arith)
-snoc-order e (a ∷ l) (b ∷ m) same =
-    let rest = snoc-order e l m (omega arith) in (
+between e [] [] x y same = (λ h. ⊎-elim (λ less. absurd (omega arith)) (λ (equal, h). h) h, λ h. inr (refl, h))
+between e [] (b ∷ m) x y same = absurd (omega arith)
+between e (a ∷ l) [] x y same = absurd (omega arith)
+between e (a ∷ l) (b ∷ m) x y same =
+    let rest = between e l m x y (omega arith) in (
       λ h. ⊎-elim (λ less. inl less) (λ (equal, h). inr (equal, rest .0 h)) h,
       λ h. ⊎-elim (λ less. inl less) (λ (equal, h). inr (equal, rest .1 h)) h,
     )
 
 order-before :
     (start start′ : WorldState) (lamps lamps′ : List ℕ) →
-    ((length lamps ∷ start .0 ∷ (lamps ++ (0 ∷ []))) ≼ (length lamps′ ∷ start′ .0 ∷ (lamps′ ++ (0 ∷ []))))
-    ↔ ((length lamps ∷ start .0 ∷ lamps) ≼ (length lamps′ ∷ start′ .0 ∷ lamps′))
+    ((length lamps ∷ (lamps ++ (0 ∷ start .0 ∷ []))) ≼ (length lamps′ ∷ (lamps′ ++ (0 ∷ start′ .0 ∷ []))))
+    ↔ ((length lamps ∷ (lamps ++ (start .0 ∷ []))) ≼ (length lamps′ ∷ (lamps′ ++ (start′ .0 ∷ []))))
 unfolding _≼_
 order-before start start′ lamps lamps′ = (
-  λ h. ⊎-elim (λ less. inl less)
-      (λ (same, h). inr (same, ⊎-elim (λ less. inl less) (λ (equal, h). inr (equal, snoc-order 0 lamps lamps′ same .0 h)) h)) h,
-  λ h. ⊎-elim (λ less. inl less)
-      (λ (same, h). inr (same, ⊎-elim (λ less. inl less) (λ (equal, h). inr (equal, snoc-order 0 lamps lamps′ same .1 h)) h)) h,
+  λ h. ⊎-elim (λ less. inl less) (λ (same, h). inr (same, between 0 lamps lamps′ _ _ same .0 h)) h,
+  λ h. ⊎-elim (λ less. inl less) (λ (same, h). inr (same, between 0 lamps lamps′ _ _ same .1 h)) h,
 )
 
 -- ---- the file

@@ -1,10 +1,10 @@
--- Request (c) of 02, for files from before it: where byte 6 is 0 there is one kind of end, and columns, lengths, places, lines and their
--- order are those of 01. The definitions here are those of 01 ("The line and its tables", "Job file", "The check" and "Who can cause
--- which number"), with C + 1 columns.
+-- Request (c) of 02, for files from before it: where byte 6 is 0 there is one kind of end, and columns, lengths, places and lines are those
+-- of 01; their order is that of (f) without the kinds of ends. The definitions here are those of 01 ("The line and its tables", "Job file" and
+-- "Who can cause which number"), with C + 1 columns.
 use mathlib.Core.Path.{_≡_}
 use mathlib.Core.Logic.{_↔_}
 use mathlib.Core.Bool.{Bool, _||_, _&&_}
-use mathlib.Core.List.{List, [], _∷_}
+use mathlib.Core.List.{List, [], _∷_, _++_}
 use Prim.Native.Nat.{ℕ, _+_, _*_}
 use lib.Dec.{eqb}
 use lib.ListN.{length}
@@ -56,11 +56,11 @@ pub record AsBefore (s : List ℕ) : Type 0 where
   -- The lines of the job are those with lamps of the kinds 1 to C and the end kind 0, and their column is as before.
   pub lines : (line : Line) → Fits (tablesOf s) line ↔ (Kinds (head s .kinds) (line .lamps) × (line .end ≡ 0))
   pub line-column : (lamps : List ℕ) → column (tablesOf s) (lineOf 0 lamps) ≡ columnBefore lamps
-  -- The order of these lines: by length, start and kinds of lamps.
+  -- The order of these lines: by length, kinds of lamps and start.
   pub order :
       (start start′ : WorldState) (lamps lamps′ : List ℕ) →
       (rank (tablesOf s) start (lineOf 0 lamps) ≼ rank (tablesOf s) start′ (lineOf 0 lamps′))
-      ↔ ((length lamps ∷ start .0 ∷ lamps) ≼ (length lamps′ ∷ start′ .0 ∷ lamps′))
+      ↔ ((length lamps ∷ (lamps ++ (start .0 ∷ []))) ≼ (length lamps′ ∷ (lamps′ ++ (start′ .0 ∷ []))))
 
 -- It is so for every file in which byte 6 is 0.
 abbrev pub OneEndKindAsBefore : Type 0

@@ -34,16 +34,16 @@ pub from-arrivals :
     (v : ℕ) → 16 ≤ v → fateFrom v ≡ arrived (pair (programState ((v - 16) / 64)) (worldState ((v - 16) % 64))) 0
 from-arrivals v v≥ =
     rw (
-      ne-eqb v 1 (λ e. omega arith),
+      le-ltb v 2 (omega arith),
       ne-eqb v 2 (λ e. omega arith),
       ne-eqb v 3 (λ e. omega arith),
       ne-eqb v 4 (λ e. omega arith),
       le-ltb v 16 v≥,
     )
 
--- An entry below 16 that is none of 1 to 4 stands for failure 4.
-pub from-goal-false : (v : ℕ) → v ≢ 1 → v ≢ 2 → v ≢ 3 → v ≢ 4 → v < 16 → ended (Failure GoalFalse) 0 ≡ fateFrom v
-from-goal-false v e₁ e₂ e₃ e₄ v< = rw (ne-eqb v 1 e₁, ne-eqb v 2 e₂, ne-eqb v 3 e₃, ne-eqb v 4 e₄, lt-ltb v 16 v<)
+-- An entry from 5 to 15 stands for failure 4.
+pub from-goal-false : (v : ℕ) → 2 ≤ v → v ≢ 2 → v ≢ 3 → v ≢ 4 → v < 16 → ended (Failure GoalFalse) 0 ≡ fateFrom v
+from-goal-false v v≥ e₂ e₃ e₄ v< = rw (le-ltb v 2 v≥, ne-eqb v 2 e₂, ne-eqb v 3 e₃, ne-eqb v 4 e₄, lt-ltb v 16 v<)
 
 -- The fate is read off the entry of an arrival.
 from-arrival : (p : Pair) (k : ℕ) → p .world .0 < 64 → fateFrom (fateEntry (arrived p k)) ≡ arrived p 0

@@ -58,12 +58,13 @@ fn ending_entry(ending: Ending) -> u16
     }
 }
 
-// The fate that an entry stands for. It is called with an entry that is neither 0 nor a link.
+// The fate that an entry stands for. It is called with an entry that is neither 0 nor a link. Success is tested first and by an order:
+// tested for equality, as the others are, it would be reached through a table of jumps.
 fn entry_fate(entry: u16) -> Fate
     requires { ⌜ entry < 8192 ⌝ }
     ensures { λ r. ⌜ walkTo r ≡ fateFrom entry ⌝ }
 {
-    if entry == 1 {
+    if entry < 2 {
         return Fate::Succeeds;
     }
     if entry == 2 {

@@ -100,7 +100,7 @@ pub record Examples : Type 0 where
   pub step-not-counted : runOn branchless [] ≡ ran (Failure NoBranch) 0
   pub ends-at-limit : limited 5 (runOn passing (1 ∷ 1 ∷ [])) ≡ within Goal 5
   pub stopped-below : limited 4 (runOn passing (1 ∷ 1 ∷ [])) ≡ stopped 4
-  pub end-compared-last : rank boxed (worldState 7) (lineOf 1 (2 ∷ 3 ∷ [])) ≡ 2 ∷ 7 ∷ 2 ∷ 3 ∷ 1 ∷ []
+  pub start-compared-last : rank boxed (worldState 7) (lineOf 1 (2 ∷ 3 ∷ [])) ≡ 2 ∷ 2 ∷ 3 ∷ 1 ∷ 7 ∷ []
 
 -- Each holds by computation.
 pub examples : Examples
@@ -120,5 +120,5 @@ examples =
       step-not-counted = refl;
       ends-at-limit = refl;
       stopped-below = refl;
-      end-compared-last = refl;
+      start-compared-last = refl;
     }

@@ -31,10 +31,10 @@ module _ (t : Tables) where
     pub beginning : Beginning t start line
     pub leads : Leads (lampProblem t) (planOf t) (Failure kind) (t .first) (situation start line)
 
-  -- 01, "The check", and 02, (c): failing lines are ordered by length, then by start, then by the lamp kinds from the first lamp on,
-  -- and last by the kind of the line's end. The ranks of two lines are compared by ≼.
+  -- 02, (f): failing lines are ordered by length, then by the lamp kinds from the first lamp on, then by the kind of the line's end, and
+  -- last by the start. The ranks of two lines and their starts are compared by ≼.
   unfoldable pub rank : WorldState → Line → List ℕ
-  rank start line = length (line .lamps) ∷ start .0 ∷ (line .lamps ++ (line .end ∷ []))
+  rank start line = length (line .lamps) ∷ (line .lamps ++ (line .end ∷ start .0 ∷ []))
 
   -- What a failing check names: the line fails from the start with this failure kind, it comes first of all that fail, and it has
   -- at most S·W + 1 lamps.

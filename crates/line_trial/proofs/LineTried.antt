@@ -12,9 +12,9 @@ use Rattle.lamp_line.specs.declared.WorldState.{WorldState}
 use Rattle.lamp_line.specs.Tables.{Tables, endKinds}
 use Rattle.lamp_line.specs.Run.{Pair, pair}
 use Rattle.run_laws.specs.inner.Pairs.{pairNumber}
-use Rattle.search_laws.specs.inner.Entries.{Entry, grown}
+use Rattle.search_laws.specs.inner.Entries.{Entry}
 use Rattle.check_laws.specs.inner.Fates.{AtEnds, good, bad, atEnds}
-use Rattle.check_laws.specs.inner.Search.{goes-on, failing, lineStart, lineLamps, lineEntry, visited, tried}
+use Rattle.check_laws.specs.inner.Search.{fails-at, quiet, finds, visited, tried}
 use Rattle.check_laws.proofs.Ends.{EndsSay, ends-say}
 use Rattle.line_trial.specs.declared.Tried.{Tried}
 use Rattle.line_trial.specs.declared.Tried.the-variants as tried-as
@@ -24,19 +24,18 @@ use Rattle.line_trial.specs.inner.Trials.{TriedBelow, EndsSoFar, Tries, 
 -- ---- the answers, case by case
 
 module _
-    {t : Tables} {E : List Entry} {place label : ℕ} {ForNew : Pair → Type 0} {r : Tried} {memory′ : List ℕ}
-    (tries : Tries t E place label ForNew r memory′) where
+    {t : Tables} {E : List Entry} {member kind : ℕ} {ForNew : Pair → Type 0} {r : Tried} {memory′ : List ℕ}
+    (tries : Tries t E member kind ForNew r memory′) where
   abbrev As : Tried → Type 0
-  As u = Tries t E place label ForNew u memory′
+  As u = Tries t E member kind ForNew u memory′
 
   -- The line fails.
   pub tries-fails :
-      {kind : FailureKind} {end : ℕ} → r ≡ tried-as.Fails kind end →
-      tried t E place label ≡ failing kind (lineStart E place label) (lineLamps E place label) end
+      {failure : FailureKind} {end : ℕ} → r ≡ tried-as.Fails failure end → tried t E member kind ≡ fails-at failure end
   tries-fails e = subst As e tries .so
 
   -- Nothing is new.
-  pub tries-nothing : r ≡ tried-as.Nothing → tried t E place label ≡ goes-on E
+  pub tries-nothing : r ≡ tried-as.Nothing → tried t E member kind ≡ quiet
   tries-nothing e = subst As e tries .so
 
   -- The line reaches its end with a new pair.
@@ -46,44 +45,42 @@ module _
 -- ---- one end after the other
 
 -- No end is below the lowest.
-pub none-below : {t : Tables} {E : List Entry} {place label : ℕ} → TriedBelow t E place label 0
-none-below = record { none-fails = λ kind e below. absurd (omega arith); some-new = λ later. absurd (omega arith) }
+pub none-below : {t : Tables} {E : List Entry} {member kind : ℕ} → TriedBelow t E member kind 0
+none-below = record { none-fails = λ failure e below. absurd (omega arith); some-new = λ later. absurd (omega arith) }
 
 -- The answer of `try_end` for one end.
 module _
-    {t : Tables} {E : List Entry} {place label end : ℕ} {words : List ℕ} {r : Tried} {memory′ : List ℕ}
-    (tries : TriesEnd t E place label end words r memory′) where
+    {t : Tables} {E : List Entry} {member kind end : ℕ} {words : List ℕ} {r : Tried} {memory′ : List ℕ}
+    (tries : TriesEnd t E member kind end words r memory′) where
   -- It is a failure, or nothing is new: this is the answer for the line.
-  pub end-decides : OneOf (0 ∷ 1 ∷ []) (tagOf tried-type r) → TriesLine t E place label words r memory′
+  pub end-decides : OneOf (0 ∷ 1 ∷ []) (tagOf tried-type r) → TriesLine t E member kind words r memory′
   end-decides h = go r refl h
     where
-      go : (u : Tried) → r ≡ u → OneOf (0 ∷ 1 ∷ []) (tagOf tried-type u) → TriesLine t E place label words u memory′
-      go (tried-as.Fails kind e) is k = record { so = tries-fails tries is; remembers = tries .remembers }
+      go : (u : Tried) → r ≡ u → OneOf (0 ∷ 1 ∷ []) (tagOf tried-type u) → TriesLine t E member kind words u memory′
+      go (tried-as.Fails failure e) is k = record { so = tries-fails tries is; remembers = tries .remembers }
       go tried-as.Nothing is k = record { so = tries-nothing tries is; remembers = tries .remembers }
       go (tried-as.New state world) is k = absurd (miss (0 ∷ 1 ∷ []) 2 tt k)
 
   module _ {state : ProgramState} {world : WorldState} (is-new : r ≡ tried-as.New state world) where
-    so-far : EndsSoFar t E place label end words (pair state world)
+    so-far : EndsSoFar t E member kind end words (pair state world)
     so-far = tries-new tries is-new
 
     -- A new pair that fails with no end up to this one: the next is to be tried.
-    pub next-end : TriedBelow t E place label (end + 1)
+    pub next-end : TriedBelow t E member kind (end + 1)
     next-end = so-far .tried-below
 
     -- This is the highest end: the pair is new, and fails with no end.
-    pub all-ends-tried : end ≡ t .ends → TriesLine t E place label words (tried-as.New state world) memory′
+    pub all-ends-tried : end ≡ t .ends → TriesLine t E member kind words (tried-as.New state world) memory′
     unfolding endKinds
     all-ends-tried last =
         record {
-          so = record { range = so-far .range; unmarked = so-far .unmarked; turn-is = go (atEnds t y) (so-far .visits) (ends-say t y) };
+          so = record { range = so-far .range; unmarked = so-far .unmarked; found = go (atEnds t y) (so-far .visits) (ends-say t y) };
           remembers = tries .remembers;
         }
       where
         y : ℕ
         y = pairNumber (t .worlds) (pair state world)
 
-        go :
-            (ends : AtEnds) → tried t E place label ≡ visited E (lineEntry E place label y) false ends → EndsSay t y ends →
-            tried t E place label ≡ goes-on (grown E (lineEntry E place label y))
+        go : (ends : AtEnds) → tried t E member kind ≡ visited y false ends → EndsSay t y ends → tried t E member kind ≡ finds y
         go good f say = f
-        go (bad e kind) f say = absurd (so-far .tried-below .none-fails kind e (omega (arith, say .is-end)) f)
+        go (bad e failure) f say = absurd (so-far .tried-below .none-fails failure e (omega (arith, say .is-end)) f)

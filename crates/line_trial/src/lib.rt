@@ -1,5 +1,5 @@
-// Trying one line of the check's search (01, "The check"): the line of a place and a label, with every kind of end, the lowest first (02, (c)).
-// Its lamps but the last led to the pair that the working list has for that place, so only its last stretch is looked at.
+// Trying one line of the check's search (01, "The check") from one of its members, with every kind of end, the lowest first (02, (c)). The
+// line's lamps but the last led to the pair of that member, so only its last stretch is looked at.
 ghost use mathlib.Core.Path.{_≡_};
 ghost use mathlib.Core.Bool.{_&&_};
 ghost use Prim.Native.Nat.{_*_, _≤_, _<_};
@@ -9,7 +9,7 @@ ghost use Rattle.job_layout.specs.JobTables.{tablesBy};
 ghost use Rattle.job_file.specs.Reading.{Opened};
 ghost use Rattle.pair_bits.specs.Sum.{bitAt};
 ghost use Rattle.working_list.specs.inner.Listing.{table, Listed};
-ghost use Rattle.line_trial.specs.inner.Trials.{Ready, HasLabel, Begins, TriedBelow, TriesEnd, TriesLine};
+ghost use Rattle.line_trial.specs.inner.Trials.{Ready, HasMember, Begins, TriedBelow, TriesEnd, TriesLine};
 use job_layout::Job;
 use job_layout::places::lamp_column;
 use job_tables::is_start;
@@ -37,35 +37,35 @@ pub enum Tried {
     New(ProgramState, WorldState),
 }
 
-// Where the last stretch begins of the line that is tried at a place with a label and an end. At place 0 the line is empty. At every
-// other place its lamps but the last led to the pair that the list has for that place.
+// Where the last stretch begins of the line that is tried from a member with this end. With kind 0 the line is empty, and the member is a
+// start. With any other kind its lamps but the last led to the pair that the list has at the member's place.
 fn last_stretch(
     file: &[u8],
     job: Job,
     list: &[u32],
     words: &[u64],
     count: usize,
-    place: usize,
-    label: u8,
+    member: usize,
+    kind: u8,
     end: u8,
 ) -> Stretch
     requires { ⌜ Opened (now file) job × Listed (tablesBy (now file) job) (now list) (now words) count
-        × HasLabel (tablesBy (now file) job) count place label × (end ≤ job .ends) ⌝ }
+        × HasMember (tablesBy (now file) job) count member kind × (end ≤ job .ends) ⌝ }
     ensures { λ r. ⌜ Begins (tablesBy (now (file .entry)) job) (table (tablesBy (now (file .entry)) job) (now (list .entry)) count)
-        place label end r ⌝ }
+        member kind end r ⌝ }
 {
-    if place == 0 {
-        let start = WorldState(label);
+    if kind == 0 {
+        let start = WorldState(member as u8);
         let first = job.first;
         if is_start(file, job, start) {
             return Stretch::From(first, start, end);
         }
         return Stretch::Nowhere;
     }
-    let before = unpack(list[place - 1]);
+    let before = unpack(list[member]);
     let state = before.state;
     let world = before.world;
-    Stretch::From(state, world, lamp_column(job, label))
+    Stretch::From(state, world, lamp_column(job, kind))
 }
 
 // Whether a line is at the lowest end with a pair that is in the list already. The lowest end is tried first, so there is no need to ask
@@ -89,17 +89,17 @@ fn try_end(
     list: &[u32],
     words: &[u64],
     count: usize,
-    place: usize,
-    label: u8,
+    member: usize,
+    kind: u8,
     end: u8,
 ) -> Tried
     requires { ⌜ Ready (now file) job (now memory) × Listed (tablesBy (now file) job) (now list) (now words) count
-        × HasLabel (tablesBy (now file) job) count place label × (end ≤ job .ends)
-        × TriedBelow (tablesBy (now file) job) (table (tablesBy (now file) job) (now list) count) place label end ⌝ }
+        × HasMember (tablesBy (now file) job) count member kind × (end ≤ job .ends)
+        × TriedBelow (tablesBy (now file) job) (table (tablesBy (now file) job) (now list) count) member kind end ⌝ }
     ensures { λ r. ⌜ TriesEnd (tablesBy (now (file .entry)) job) (table (tablesBy (now (file .entry)) job) (now (list .entry)) count)
-        place label end (now (words .entry)) r (now (memory .exit)) ⌝ }
+        member kind end (now (words .entry)) r (now (memory .exit)) ⌝ }
 {
-    let stretch = last_stretch(file, job, list, words, count, place, label, end);
+    let stretch = last_stretch(file, job, list, words, count, member, kind, end);
     let Stretch::From(first, start, lamp) = stretch else {
         return Tried::Nothing;
     };
@@ -135,17 +135,17 @@ pub fn try_line(
     list: &[u32],
     words: &[u64],
     count: usize,
-    place: usize,
-    label: u8,
+    member: usize,
+    kind: u8,
 ) -> Tried
     requires { ⌜ Ready (now file) job (now memory) × Listed (tablesBy (now file) job) (now list) (now words) count
-        × HasLabel (tablesBy (now file) job) count place label ⌝ }
+        × HasMember (tablesBy (now file) job) count member kind ⌝ }
     ensures { λ r. ⌜ TriesLine (tablesBy (now (file .entry)) job) (table (tablesBy (now (file .entry)) job) (now (list .entry)) count)
-        place label (now (words .entry)) r (now (memory .exit)) ⌝ }
+        member kind (now (words .entry)) r (now (memory .exit)) ⌝ }
 {
     let mut end = 0;
     loop {
-        let tried = try_end(file, job, memory, list, words, count, place, label, end);
+        let tried = try_end(file, job, memory, list, words, count, member, kind, end);
         let Tried::New(state, world) = tried else {
             return tried;
         };

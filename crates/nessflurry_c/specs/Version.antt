@@ -3,4 +3,4 @@ use Prim.Native.Nat.{ℕ}
 
 -- It increases with every change that a caller has to follow.
 abbrev pub version : ℕ
-version = 2
+version = 3

@@ -39,7 +39,7 @@ use plan_check::check_plan;
 use plan_check::check_up_to;
 
 // The version of include/nessflurry.h.
-const VERSION: u32 = 2;
+const VERSION: u32 = 3;
 
 #[no_mangle]
 pub extern "C" fn nessflurry_version() -> u32

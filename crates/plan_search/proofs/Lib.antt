@@ -1,3 +1,4 @@
+pub mod GroupEnds
 pub mod Naming
-pub mod NewPairs
 pub mod SearchLoops
+pub mod Sweeps

@@ -16,7 +16,7 @@ use Rattle.check_laws.proofs.VerdictRight.{failing-short}
 use Rattle.plan_search.specs.declared.SearchEnd.{SearchEnd}
 use Rattle.plan_search.specs.declared.SearchEnd.the-variants.{NoneFails, AtLine}
 use Rattle.plan_search.specs.declared.Found.the-variants as found
-use Rattle.working_list.specs.inner.Placing.{entries, Chained, Written}
+use Rattle.working_list.specs.inner.Placing.{entries, MemberOf, Chained, Written}
 use Rattle.working_list.specs.inner.Listing.{table}
 use Rattle.plan_search.specs.inner.Searching.{LineMet, Searched, Finds}
 use Rattle.working_list.proofs.LineLoops.{same-lamps}
@@ -30,9 +30,9 @@ finds-none {t} {longest} {r} {count} {list} searched e =
 
 -- A line fails.
 module _
-    {t : Tables} {longest : ℕ} {r : SearchEnd} {kind : FailureKind} {end n place label lamps : ℕ} {list : List ℕ}
-    (searched : Searched t longest r list) (fails : r ≡ AtLine kind end n place label lamps) where
-  met : LineMet t longest kind end list n place label lamps
+    {t : Tables} {longest : ℕ} {r : SearchEnd} {kind : FailureKind} {end n member k lamps : ℕ} {list : List ℕ}
+    (searched : Searched t longest r list) (fails : r ≡ AtLine kind end n member k lamps) where
+  met : LineMet t longest kind end list n member k lamps
   met = subst (λ (u : SearchEnd). Searched t longest u list) fails searched .so
 
   -- The list has the words from which the line is read.
@@ -43,8 +43,8 @@ module _
   pub taken-size : length (take n list) ≡ n
   taken-size = length-take-le n list words-held
 
-  place-held : place ≤ length (take n list)
-  place-held = omega (arith, taken-size, met .within)
+  member-of : MemberOf (length (take n list)) member k
+  member-of = rw taken-size (met .member-of)
 
   module _ (wf : WellFormed t) where
     -- The line has at most S·W + 1 lamps, so a buffer with as many bytes has room.
@@ -58,22 +58,22 @@ module _
     -- The precondition of the function that writes the line.
     pub writable :
         {room : ℕ} → t .states * t .worlds + 1 ≤ room →
-        Chained (take n list) × (place ≤ length (take n list)) × (length (take n list) ≤ 4160) × (lamps ≤ room)
-        × ((worlds : ℕ) → lamps ≡ length (lineLamps (entries worlds (take n list)) place label))
+        Chained (take n list) × MemberOf (length (take n list)) member k × (length (take n list) ≤ 4160) × (lamps ≤ room)
+        × ((worlds : ℕ) → lamps ≡ length (lineLamps (entries worlds (take n list)) member k))
     writable enough = (
       met .chained,
-      place-held,
+      member-of,
       omega (arith, taken-size, met .few),
       line-fits enough,
       λ worlds.
           met .lamps-are
-          ∙ ap length (same-lamps (t .worlds) worlds (take n list) (met .chained) place place label (omega arith) place-held),
+          ∙ ap length (same-lamps (t .worlds) worlds (take n list) (met .chained) member-of),
     )
 
     -- With the line that is written the answer is the definition's.
     pub finds-line :
         {line line′ : List ℕ} {w : WorldState} → t .states * t .worlds + 1 ≤ length line → length line′ ≡ length line →
-        Written (table t list n) place label lamps line w line′ → Finds t longest (found.Fails kind w lamps end) line line′
+        Written (table t list n) member k lamps line w line′ → Finds t longest (found.Fails kind w lamps end) line line′
     finds-line {line} {line′} {w} enough same written =
         record {
           so = record {
@@ -86,7 +86,7 @@ module _
         }
       where
         whole : List ℕ
-        whole = lineLamps (table t list n) place label
+        whole = lineLamps (table t list n) member k
 
         front : take lamps line′ ≡ whole
         front = ap (take lamps) (written .line-is) ∙ take-at whole (drop lamps line) lamps (sym (met .lamps-are))

@@ -1,39 +1,30 @@
-// The search of the check (01, "The check"). It goes through places. At place 0 it tries the empty line from each start. Every further
-// place belongs to a pair of the working list, and there it tries that pair's line with one lamp more, of each kind. A line is tried with
-// every kind of end, the lowest first (02, (c)). A new pair is put in the list, unless the line that ends with it fails with some end. The
-// search stops at a line that fails, when no place is left, or before it would try a line with more lamps than it was asked for (02, (b)).
+// The search of the check (01, "The check"). It tries one line after the other, each from all its members (02, (f)): first the empty line,
+// from the starts. The pairs that are found by the same line stand together in the working list, as a group. For each group in turn, and
+// for each kind of lamp, the group's line is then tried with one lamp more. The search stops at a line that fails, when no group is left,
+// or before it would try a line with more lamps than it was asked for (02, (b)). Of the failures of a line, the one with the lowest kind of
+// end is named, and of those with the same end the one of the lowest start.
 ghost use mathlib.Core.Path.{_≡_};
-ghost use mathlib.Core.List.{List};
 ghost use Prim.Native.Nat.{ℕ, _+_, _*_, _≤_, _<_};
-ghost use lib.ListN.{length};
+ghost use lib.ListN.{length, take};
 ghost use Rattle.job_layout.specs.JobTables.{tablesBy};
-ghost use Rattle.lamp_fates.specs.inner.Memory.{Memory};
 ghost use Rattle.run_laws.specs.inner.Pairs.{pairs};
-ghost use Rattle.check_laws.specs.inner.Search.{firstLabel, labels};
-ghost use Rattle.working_list.specs.inner.Listing.{Listed};
-ghost use Rattle.line_trial.specs.inner.Trials.{Ready, HasLabel};
-ghost use Rattle.plan_search.specs.inner.Searching.{Turned, Searched, Room, Finds};
+ghost use Rattle.search_laws.specs.inner.Entries.{groupEnd};
+ghost use Rattle.working_list.specs.inner.Placing.{entries};
+ghost use Rattle.line_trial.specs.inner.Trials.{Ready};
+ghost use Rattle.plan_search.specs.inner.Searching.{Searched, Room, Finds};
 use job_layout::Job;
-use lamp_fates::pair_number;
 use lamp_line::FailureKind;
 use lamp_line::WorldState;
-use line_trial::Tried;
-use line_trial::try_line;
+use member_trial::MemberEnd;
+use member_trial::try_member;
 use pair_bits::clear_bits;
-use pair_bits::set_bit;
 use pair_bits::sum_bits;
-use working_list::Placed;
 use working_list::line::write_line;
-use working_list::list::pack;
-
-// The outcome of a turn of the search: its line fails, with this kind of end, or the list now holds this many pairs.
-pub enum TurnEnd {
-    Fails(FailureKind, u8),
-    Holds(usize),
-}
+use working_list::list::unpack;
 
 // Where the search ends: no line fails, and this many pairs are in the list; or a line fails. Then it answers the failure kind, the kind of
-// the line's end, the number of pairs in the list, the place and the label at which the line was tried, and its number of lamps.
+// the line's end, the number of pairs in the list, the member from which the line was tried, the kind of its last lamp, and its number of
+// lamps.
 pub enum SearchEnd {
     NoneFails(u32),
     AtLine(FailureKind, u8, usize, usize, u8, usize),
@@ -46,65 +37,28 @@ pub enum Found {
     Fails(FailureKind, WorldState, u16, u8),
 }
 
-// Tries one label at one place; a new pair is put in the list.
-fn one_turn(
-    file: &[u8],
-    job: Job,
-    memory: &mut [u16],
-    list: &mut [u32],
-    words: &mut [u64],
-    count: usize,
-    place: usize,
-    label: u8,
-) -> TurnEnd
-    requires { ⌜ Ready (now file) job (now memory) × Listed (tablesBy (now file) job) (now list) (now words) count
-        × HasLabel (tablesBy (now file) job) count place label ⌝ }
-    ensures { λ r. ⌜ Turned (tablesBy (now (file .entry)) job) (now (list .entry)) count place label r
-        (now (list .exit)) (now (words .exit)) × Memory (tablesBy (now (file .entry)) job) (now (memory .exit)) ⌝ }
+// Where the group ends that begins with the pair at `from`: at the next pair that opens a group, or at the end of the list.
+fn group_end(list: &[u32], from: usize, count: usize) -> usize
+    requires { ⌜ (from < count) × (count ≤ length (now list)) × (count ≤ 4160) ⌝ }
+    ensures { λ r. ⌜ ((worlds : ℕ) → r ≡ groupEnd (entries worlds (take count (now (list .entry)))) from) ⌝ }
 {
-    let tried = try_line(file, job, memory, list, words, count, place, label);
-    match tried {
-        Tried::Fails(failure, end) => TurnEnd::Fails(failure, end),
-        Tried::Nothing => TurnEnd::Holds(count),
-        Tried::New(state, world) => {
-            set_bit(words, pair_number(state, world, job.worlds));
-            let placed = Placed {
-                state: state,
-                world: world,
-                place: place,
-                label: label,
-            };
-            list[count] = pack(placed);
-            TurnEnd::Holds(count + 1)
+    let mut to = from + 1;
+    while to < count {
+        let pair = unpack(list[to]);
+        if pair.opens {
+            return to;
         }
+        to += 1;
     }
+    to
 }
 
-// The first label of a place.
-fn first_label(place: usize) -> u8
-    ensures { λ r. ⌜ r ≡ firstLabel place ⌝ }
-{
-    if place == 0 {
-        return 0;
-    }
-    1
-}
-
-// The last label of a place.
-fn last_label(job: Job, place: usize) -> u8
-    requires { ⌜ 1 ≤ job .worlds ⌝ }
-    ensures { λ r. ⌜ ((s : List ℕ) → r + 1 ≡ firstLabel place + labels (tablesBy s job) place) ⌝ }
-{
-    if place == 0 {
-        return job.worlds - 1;
-    }
-    job.kinds
-}
-
-// Tries place after place with all its labels. The places come in layers: the lines that are tried at this place, and at those after it
-// up to `layer`, have `lamps` lamps. The pairs found meanwhile have the places of the next layer, whose lines have one lamp more; it is
-// not begun if that is more than `longest`.
-fn search_places(
+// Tries group after group with all its kinds of lamps: the starts with the empty line, which is kind 0, and then the pairs of the list. A
+// line is tried from all members of the group before the next. Where it fails from one, the others are tried for a failure with a lower
+// kind of end, unless it is the lowest. The group after this one begins with the pair at `next`. The groups come in layers: the lines that
+// are tried for this group, and for those after it up to `layer`, have `lamps` lamps. The pairs found meanwhile are the next layer, whose
+// lines have one lamp more; it is not begun if that is more than `longest`.
+fn search_groups(
     file: &[u8],
     job: Job,
     longest: usize,
@@ -119,30 +73,64 @@ fn search_places(
     let pairs = (job.states as usize + 1) * job.worlds as usize;
     clear_bits(words, pairs);
     let mut count = 0;
-    let mut place = 0;
+    let mut from = 0;
+    let mut to = job.worlds as usize;
+    let mut kind = 0;
+    let mut last = 0;
+    let mut next = 0;
     let mut layer = 0;
     let mut lamps = 0;
+    let mut clean = true;
+    let mut lowest = 0;
+    let mut ended = SearchEnd::NoneFails(0);
     let halted = 'search: loop {
-        let last = last_label(job, place);
-        let mut label = first_label(place);
-        while label <= last {
-            let turn = one_turn(file, job, memory, list, words, count, place, label);
-            match turn {
-                TurnEnd::Fails(failure, end) => break 'search SearchEnd::AtLine(
-                    failure,
-                    end,
+        while kind <= last {
+            let before = count;
+            let mut member = from;
+            while member < to {
+                let turn = try_member(
+                    file,
+                    job,
+                    memory,
+                    list,
+                    words,
+                    before,
                     count,
-                    place,
-                    label,
-                    lamps,
-                ),
-                TurnEnd::Holds(n) => {
-                    count = n;
+                    member,
+                    kind,
+                    clean,
+                );
+                match turn {
+                    MemberEnd::Fails(failure, end) => {
+                        if end == 0 {
+                            break 'search SearchEnd::AtLine(
+                                failure,
+                                end,
+                                count,
+                                member,
+                                kind,
+                                lamps,
+                            );
+                        }
+                        if clean || end < lowest {
+                            clean = false;
+                            lowest = end;
+                            ended = SearchEnd::AtLine(failure, end, count, member, kind, lamps);
+                        }
+                    }
+                    MemberEnd::Holds(n) => {
+                        count = n;
+                    }
                 }
+                member += 1;
             }
-            label += 1;
+            if clean {
+                kind += 1;
+            } else {
+                break 'search ended;
+            }
         }
-        if place == layer {
+        if next == layer {
             if count == layer || longest < lamps + 1 {
                 let reached = sum_bits(words, pairs) as u32;
                 break 'search SearchEnd::NoneFails(reached);
@@ -150,7 +138,11 @@ fn search_places(
             layer = count;
             lamps += 1;
         }
-        place += 1;
+        from = next;
+        to = group_end(list, from, count);
+        next = to;
+        kind = 1;
+        last = job.kinds;
     };
     halted
 }
@@ -172,11 +164,11 @@ pub fn search(
         × Room (tablesBy (now file) job) (length (now line)) (length (now list)) (length (now words)) ⌝ }
     ensures { λ r. ⌜ Finds (tablesBy (now (file .entry)) job) longest r (now (line .entry)) (now (line .exit)) ⌝ }
 {
-    let halted = search_places(file, job, longest, memory, list, words);
+    let halted = search_groups(file, job, longest, memory, list, words);
     match halted {
         SearchEnd::NoneFails(count) => Found::NoneFails(count),
-        SearchEnd::AtLine(failure, end, count, place, label, lamps) => {
-            let start = write_line(&list[..count], line, place, label, lamps);
+        SearchEnd::AtLine(failure, end, count, member, kind, lamps) => {
+            let start = write_line(&list[..count], line, member, kind, lamps);
             Found::Fails(failure, start, lamps as u16, end)
         }
     }

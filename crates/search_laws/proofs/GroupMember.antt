@@ -1,6 +1,7 @@
 -- One entry of a group, tried with one kind of lamp: each node to which it leads is already in the table, or is added.
-use mathlib.Core.Path.{_≡_, sym, subst}
+use mathlib.Core.Path.{_≡_, sym, ap, subst}
 use mathlib.Core.Logic.{_≢_, _⊎_, inl, inr, ⊎-elim}
+use mathlib.Core.Bool.{Bool}
 use mathlib.Core.List.{List, [], _∷_}
 use Prim.Native.Nat.{ℕ, _+_, _≤_, _<_}
 use native.Mathlib.Omega.{arith}
@@ -8,7 +9,7 @@ use lib.ListN.{length, length-append}
 use Rattle.lamp_line.specs.Lists.{_≼_}
 use Rattle.search_laws.specs.inner.Lists.{_▸_, _≺_}
 use Rattle.search_laws.proofs.Lex.{≼-refl}
-use Rattle.search_laws.proofs.Keys.{stem, lineKey, stem-longer, stem-more, key-by-stem, key-more}
+use Rattle.search_laws.proofs.Keys.{stem, lineKey, stem-longer, key-by-stem, key-more}
 use Rattle.search_laws.specs.inner.Graph.{Graph, Kind, Reach, past-lamp}
 use Rattle.search_laws.specs.inner.Entries.{Entry, entryAt, node, start, path, grown, onward}
 use Rattle.search_laws.proofs.Table.{entryKey, entryStem, keyOf, stemOf, keyOn, stemOn, Known}
@@ -21,8 +22,9 @@ tried-more a b k m i c (inr (x, inl y)) = inl (inr (x, inl y))
 tried-more a b k m i c (inr (x, inr (y, z))) = ⊎-elim (λ w. inl (inr (x, inr (y, w)))) (λ w. inr (w, y)) (below-or-last i m z)
 
 module _ {g : Graph} {E : List Entry} {a b k m n : ℕ} (inv : Invariant g E a b k m n) (here : m < b) where
-  stem-tried : stemOn E m k ≡ stemOn E a k
-  stem-tried = stem-more (start E m) (start E a) (path E m) (path E a) k (inv .one-stem m (inv .a≤m) here)
+  -- The line that is tried, read off this entry.
+  line-tried : path E m ▸ k ≡ path E a ▸ k
+  line-tried = ap (λ (p : List ℕ). p ▸ k) (inv .one-line m (inv .a≤m) here)
 
   -- Every entry comes no later than the line that is tried.
   all-early : (j : ℕ) → j < length E → keyOf E j ≼ keyOn E m k
@@ -31,7 +33,7 @@ module _ {g : Graph} {E : List Entry} {a b k m n : ℕ} (inv : Invariant g E a b
       go : (j < n) ⊎ (n ≤ j) → keyOf E j ≼ keyOn E m k
       go (inl h) =
           key-by-stem (path E j) (path E m ▸ k) 0 0 (start E j) (start E m) 0 0
-          (subst (λ (z : List ℕ). stemOf E j ≺ z) (sym stem-tried) (inv .old-stems j h))
+          (subst (λ (z : List ℕ). stemOf E j ≺ stem z) (sym line-tried) (inv .old-stems j h))
       go (inr h) = inv .new-early j m h l (omega arith) here
 
   -- A node of the table was found early enough to be known for this line.
@@ -48,15 +50,14 @@ module _ {g : Graph} {E : List Entry} {a b k m n : ℕ} (inv : Invariant g E a b
         ends-good = inv .ends-good;
         real = inv .real;
         sorted = inv .sorted;
-        one-stem = inv .one-stem;
+        one-line = inv .one-line;
         later-stems = inv .later-stems;
         old-stems = inv .old-stems;
-        new-stems = inv .new-stems;
+        new-lines = inv .new-lines;
         new-early = λ i j x l y. inv .new-early i j x l (omega arith);
         distinct = inv .distinct;
         a<b = inv .a<b;
         a≤m = omega (arith, inv .a≤m);
-        m≤b = omega arith;
         b≤n = inv .b≤n;
         n≤length = inv .n≤length;
       }
@@ -72,9 +73,12 @@ module _ {g : Graph} {E : List Entry} {a b k m n : ℕ} (inv : Invariant g E a b
 
   -- ---- a new node
 
-  module _ (kind : Kind (g .kinds) k) (y : ℕ) (new : (i : ℕ) → i < length E → node E i ≢ y) (to : g .To (node E m) k y) where
+  -- The entry leads to the node y, which is not in the table and fails at no end.
+  module _
+      (kind : Kind (g .kinds) k) (y : ℕ) (new : (i : ℕ) → i < length E → node E i ≢ y) (to : g .To (node E m) k y)
+      (good : (e f : ℕ) → e < g .endCount → ¬ (g .BadEnd y e f)) (o : Bool) where
     z : Entry
-    z = onward E m k y
+    z = onward E m k y o
 
     still : (i : ℕ) → i < length E → (P : Entry → Type 0) → P (entryAt E i) → P (entryAt (grown E z) i)
     still = still-at E z
@@ -94,7 +98,7 @@ module _ {g : Graph} {E : List Entry} {a b k m n : ℕ} (inv : Invariant g E a b
     first-old = group-in-table inv a (inv .a<b)
 
     -- The node is added.
-    pub add : Invariant g (grown E (onward E m k y)) a b k m n
+    pub add : Invariant g (grown E (onward E m k y o)) a b k m n
     unfolding z
     add =
         record {
@@ -107,24 +111,24 @@ module _ {g : Graph} {E : List Entry} {a b k m n : ℕ} (inv : Invariant g E a b
           };
           lamps-good = λ i c f l kc d x.
               inv .lamps-good i c f (group-old i c d) kc d (was i (group-old i c d) (λ v. g .Bad (v .node) c f) x);
-          ends-good = λ i e f l le x.
-              inv .ends-good i e f l le (was i (omega (arith, inv .n≤length)) (λ v. g .BadEnd (v .node) e f) x);
+          ends-good = λ i e f l.
+              grown-all E z (λ j v. e < g .endCount → ¬ (g .BadEnd (v .node) e f)) (λ j l. inv .ends-good j e f l) (good e f) i l;
           real =
               grown-all E z (λ j v. Reach g (v .start) (v .path) (v .node)) (inv .real)
               (past-lamp (inv .real m (group-in-table inv m here)) kind to);
           sorted = grown-pairs E z (λ u v. entryKey u ≼ entryKey v) (inv .sorted) all-early;
-          one-stem = λ i x l.
-              still i (group-in-table inv i l) (λ v. entryStem v ≡ stemOf (grown E z) a)
-              (still a first-old (λ v. stemOf E i ≡ entryStem v) (inv .one-stem i x l));
+          one-line = λ i x l.
+              still i (group-in-table inv i l) (λ v. v .path ≡ path (grown E z) a)
+              (still a first-old (λ v. path E i ≡ v .path) (inv .one-line i x l));
           later-stems = λ i x l.
               still a first-old (λ v. entryStem v ≺ stemOf (grown E z) i)
               (grown-all E z (λ i v. b ≤ i → stemOf E a ≺ entryStem v) (λ i l x. inv .later-stems i x l) (λ x. longer) i l x);
           old-stems = λ i l.
-              still a first-old (λ v. stemOf (grown E z) i ≺ stem (v .start) (v .path ▸ k))
+              still a first-old (λ v. stemOf (grown E z) i ≺ stem (v .path ▸ k))
               (still i (omega (arith, inv .n≤length)) (λ v. entryStem v ≺ stemOn E a k) (inv .old-stems i l));
-          new-stems = λ i x l.
-              still a first-old (λ v. stemOf (grown E z) i ≡ stem (v .start) (v .path ▸ k))
-              (grown-all E z (λ i v. n ≤ i → entryStem v ≡ stemOn E a k) (λ i l x. inv .new-stems i x l) (λ x. stem-tried) i l x);
+          new-lines = λ i x l.
+              still a first-old (λ v. path (grown E z) i ≡ v .path ▸ k)
+              (grown-all E z (λ i v. n ≤ i → v .path ≡ path E a ▸ k) (λ i l x. inv .new-lines i x l) (λ x. line-tried) i l x);
           new-early = λ i j x l x′ l′.
               still j (group-in-table inv j l′) (λ v. keyOf (grown E z) i ≼ lineKey (v .path ▸ k) (v .start))
               (grown-all E z (λ i v. n ≤ i → entryKey v ≼ keyOn E j k)
@@ -132,15 +136,14 @@ module _ {g : Graph} {E : List Entry} {a b k m n : ℕ} (inv : Invariant g E a b
           distinct = grown-pairs E z (λ u v. u .node ≢ v .node) (inv .distinct) new;
           a<b = inv .a<b;
           a≤m = inv .a≤m;
-          m≤b = inv .m≤b;
           b≤n = inv .b≤n;
           n≤length = omega (arith, inv .n≤length, grown-length E z);
         }
       where
         longer : stemOf E a ≺ stemOn E m k
         longer =
-            subst (λ (v : List ℕ). v ≺ stemOn E m k) (inv .one-stem m (inv .a≤m) here)
-            (stem-longer (start E m) (start E m) (path E m) (path E m ▸ k) (omega (arith, length-append (path E m) (k ∷ []))))
+            subst (λ (p : List ℕ). stem p ≺ stemOn E m k) (inv .one-line m (inv .a≤m) here)
+            (stem-longer (path E m) (path E m ▸ k) (omega (arith, length-append (path E m) (k ∷ []))))
 
         at-or-after : (j : ℕ) → (m < j) ⊎ (m ≡ j) → j < length E → keyOf E m ≼ keyOf E j
         at-or-after j (inl u) l = inv .sorted m j u l

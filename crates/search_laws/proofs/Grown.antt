@@ -1,6 +1,7 @@
 -- Laws of the table with one more entry: the old entries are where they were, and the new one is the last.
 use mathlib.Core.Path.{_≡_, sym, ap, subst}
 use mathlib.Core.Logic.{_⊎_, inl, inr, ⊎-elim}
+use mathlib.Core.Bool.{true}
 use mathlib.Core.List.{List, [], _∷_}
 use Prim.Native.Nat.{ℕ, _+_, _≤_, _<_}
 use native.Mathlib.Decide.{decLt}
@@ -31,11 +32,11 @@ module _ (E : List Entry) (z : Entry) where
   grown-length = omega (arith, length-append E (z ∷ []))
 
   grown-old : (i : ℕ) → i < length E → entryAt (grown E z) i ≡ entryAt E i
-  grown-old i l = List·getD-append E (z ∷ []) (entry 0 0 []) i l
+  grown-old i l = List·getD-append E (z ∷ []) (entry 0 0 [] true) i l
 
   -- The last entry is the new one.
   pub grown-new : entryAt (grown E z) (length E) ≡ z
-  grown-new = getD-append-seam E z [] (entry 0 0 [])
+  grown-new = getD-append-seam E z [] (entry 0 0 [] true)
 
   -- What holds for an old entry holds for it in the new table.
   pub still-at : (i : ℕ) → i < length E → (P : Entry → Type 0) → P (entryAt E i) → P (entryAt (grown E z) i)

@@ -1,7 +1,8 @@
-pub mod Begin
+pub mod FirstFailure
 pub mod Graph
 pub mod GroupKind
 pub mod GroupMember
+pub mod Groups
 pub mod Grown
 pub mod Invariant
 pub mod Keys

@@ -9,7 +9,7 @@ use lib.ListN.{length}
 use Rattle.lamp_line.specs.Lists.{_≼_}
 use Rattle.search_laws.specs.inner.Lists.{_≺_}
 use Rattle.search_laws.proofs.Lex.{≺-trans}
-use Rattle.search_laws.proofs.Keys.{stem-more-less, key-stems}
+use Rattle.search_laws.proofs.Keys.{stem, stem-more-less, key-stems}
 use Rattle.search_laws.specs.inner.Graph.{Graph, Kind, Reach, FailsFrom}
 use Rattle.search_laws.specs.inner.Entries.{Entry, node, start, path}
 use Rattle.search_laws.proofs.Table.{keyOf, stemOf, Known}
@@ -17,13 +17,13 @@ use Rattle.search_laws.proofs.Table.{Open, untried, lamp-fails, end-fai
 use Rattle.search_laws.proofs.Grown.{below-or-last}
 use Rattle.search_laws.proofs.Invariant.{IsTried, GroupTried, tried?, Invariant}
 
--- The entries after a group have later stems, if the table is in order and the first of them has a different stem.
-pub keys-after-later :
+-- The entries after a group have later stems, if the table is in order and the first of them has other lamps.
+pub stems-after-later :
     (E : List Entry) (a b : ℕ) → ((i j : ℕ) → i < j → j < length E → keyOf E i ≼ keyOf E j) →
-    a < b → (b < length E → stemOf E b ≢ stemOf E a) → (i : ℕ) → b ≤ i → i < length E → stemOf E a ≺ stemOf E i
-keys-after-later E a b sorted a<b other i b≤i l = go (below-or-last b i (omega arith))
+    a < b → (b < length E → path E b ≢ path E a) → (i : ℕ) → b ≤ i → i < length E → stemOf E a ≺ stemOf E i
+stems-after-later E a b sorted a<b other i b≤i l = go (below-or-last b i (omega arith))
   where
-    in-order : (i j : ℕ) → i < j → j < length E → (stemOf E i ≺ stemOf E j) ⊎ (stemOf E i ≡ stemOf E j)
+    in-order : (i j : ℕ) → i < j → j < length E → (stemOf E i ≺ stemOf E j) ⊎ (path E i ≡ path E j)
     in-order i j h l = key-stems (path E i) (path E j) 0 0 (start E i) (start E j) 0 0 (sorted i j h l)
 
     at-b : b < length E → stemOf E a ≺ stemOf E b
@@ -32,14 +32,14 @@ keys-after-later E a b sorted a<b other i b≤i l = go (below-or-last b i (omega
     go : (b < i) ⊎ (b ≡ i) → stemOf E a ≺ stemOf E i
     go (inl u) =
         ⊎-elim (λ v. ≺-trans _ _ _ (at-b (omega arith)) v)
-        (λ v. subst (λ (z : List ℕ). stemOf E a ≺ z) v (at-b (omega arith))) (in-order b i u l)
+        (λ v. subst (λ (p : List ℕ). stemOf E a ≺ stem p) v (at-b (omega arith))) (in-order b i u l)
     go (inr u) = subst (λ (j : ℕ). stemOf E a ≺ stemOf E j) u (at-b (omega arith))
 
 module _ {g : Graph} {E : List Entry} {a b : ℕ} (inv : Invariant g E a b (g .kinds + 1) a (length E)) where
-  -- The next group ends where the stem changes.
+  -- The next group ends where the lamps change.
   pub group-done :
-      (b′ : ℕ) → b < b′ → b′ ≤ length E → ((i : ℕ) → b ≤ i → i < b′ → stemOf E i ≡ stemOf E b) →
-      (b′ < length E → stemOf E b′ ≢ stemOf E b) → Invariant g E b b′ 1 b (length E)
+      (b′ : ℕ) → b < b′ → b′ ≤ length E → ((i : ℕ) → b ≤ i → i < b′ → path E i ≡ path E b) →
+      (b′ < length E → path E b′ ≢ path E b) → Invariant g E b b′ 1 b (length E)
   group-done b′ lt le same other =
       record {
         covers = record { roots = inv .covers .roots; on = λ i c y l kc d. inv .covers .on i c y l kc (all-tried i c kc d) };
@@ -47,18 +47,17 @@ module _ {g : Graph} {E : List Entry} {a b : ℕ} (inv : Invariant g E a b (g .k
         ends-good = inv .ends-good;
         real = inv .real;
         sorted = inv .sorted;
-        one-stem = same;
-        later-stems = keys-after-later E b b′ (inv .sorted) lt other;
+        one-line = same;
+        later-stems = stems-after-later E b b′ (inv .sorted) lt other;
         old-stems = λ i l.
             ≺-trans _ _ _ (inv .old-stems i l)
-            (stem-more-less (start E a) (start E b) (path E a) (path E b) (g .kinds + 1) 1
+            (stem-more-less (path E a) (path E b) (g .kinds + 1) 1
             (inv .later-stems b (omega arith) (omega arith)));
-        new-stems = λ i x l. absurd (omega arith);
+        new-lines = λ i x l. absurd (omega arith);
         new-early = λ i j x l. absurd (omega arith);
         distinct = inv .distinct;
         a<b = lt;
         a≤m = omega arith;
-        m≤b = omega arith;
         b≤n = le;
         n≤length = omega arith;
       }
@@ -83,7 +82,7 @@ module _ {g : Graph} {E : List Entry} {a b : ℕ} (inv : Invariant g E a b (g .k
         go (fails-open g E (IsTried a b (g .kinds + 1) a) (tried? a b (g .kinds + 1) a) (inv .covers) s l e f d)
       where
         go : Open g E (IsTried a b (g .kinds + 1) a) s l e f → ⊥
-        go (untried i c li kc un le) = un (all-done i c li kc)
+        go (untried i c p r li kc un d early is) = un (all-done i c li kc)
         go (lamp-fails i c li kc done h le) = inv .lamps-good i c f li kc (inr (omega arith, omega (arith, kc .high))) h
         go (end-fails i li h le) = inv .ends-good i e f li (d .ended) h
 

@@ -1,6 +1,6 @@
 -- Laws of the search's table, and the central law of the search: if a failing line is followed from entry to entry through the
 -- table, this ends at an entry and a kind that were not tried yet, or at a failure of an entry.
-use mathlib.Core.Path.{_≡_, sym, subst}
+use mathlib.Core.Path.{_≡_, refl, sym, subst}
 use mathlib.Core.List.{List, [], _∷_, _++_, append-nil}
 use Prim.Native.Nat.{ℕ, _≤_, _<_}
 use native.Mathlib.Omega.{arith}
@@ -21,7 +21,7 @@ entryKey v = lineKey (v .path) (v .start)
 
 -- The stem of an entry's line.
 abbrev pub entryStem : Entry → List ℕ
-entryStem v = stem (v .start) (v .path)
+entryStem v = stem (v .path)
 
 -- The key and the stem of the entry at a place.
 abbrev pub keyOf : List Entry → ℕ → List ℕ
@@ -35,7 +35,7 @@ abbrev pub keyOn : List Entry → ℕ → ℕ → List ℕ
 keyOn E i c = lineKey (path E i ▸ c) (start E i)
 
 abbrev pub stemOn : List Entry → ℕ → ℕ → List ℕ
-stemOn E i c = stem (start E i) (path E i ▸ c)
+stemOn E i c = stem (path E i ▸ c)
 
 -- ---- what was tried
 
@@ -53,12 +53,12 @@ pub record Covers (g : Graph) (E : List Entry) (Done : ℕ → ℕ → Type 0) :
   pub on :
       (i c y : ℕ) → i < length E → Kind (g .kinds) c → Done i c → g .To (node E i) c y → Known E y (start E i) (path E i ▸ c)
 
--- Where a failing line leaves the table: at an entry and a kind that were not tried, at a failure of an entry at a lamp of a kind
--- that was tried, or at a failure of an entry at an end. What is found there comes no later than the line itself.
+-- Where a failing line leaves the table: at an entry and a kind that were not tried, where its rest fails; at a failure of an entry at
+-- a lamp of a kind that was tried; or at a failure of an entry at an end. What is found there comes no later than the line itself.
 pub data Open (g : Graph) (E : List Entry) (Done : ℕ → ℕ → Type 0) (s : ℕ) (l : List ℕ) (e f : ℕ) : Type 0 where
   untried :
-      (i c : ℕ) → i < length E → Kind (g .kinds) c → ¬ (Done i c) →
-      keyOn E i c ≼ key l e s f → Open g E Done s l e f
+      (i c : ℕ) (p r : List ℕ) → i < length E → Kind (g .kinds) c → ¬ (Done i c) → FailsAlong g (node E i) (c ∷ r) e f →
+      keyOf E i ≼ lineKey p s → l ≡ p ++ (c ∷ r) → Open g E Done s l e f
   lamp-fails :
       (i c : ℕ) → i < length E → Kind (g .kinds) c → Done i c → g .Bad (node E i) c f →
       key (path E i ▸ c) 0 (start E i) f ≼ key l e s f → Open g E Done s l e f
@@ -68,6 +68,16 @@ pub data Open (g : Graph) (E : List Entry) (Done : ℕ → ℕ → Type 0) (s : 
 
 -- ---- following a line
 
+-- If an entry comes no later than a line, then with one more lamp it comes no later than any line that goes on by this lamp.
+pub on-early :
+    (E : List Entry) (i c s e f f′ : ℕ) (p l : List ℕ) → f ≤ f′ → keyOf E i ≼ lineKey p s →
+    key (path E i ▸ c) 0 (start E i) f ≼ key (p ++ (c ∷ l)) e s f′
+on-early E i c s e f f′ p l h early =
+    subst (λ (z : List ℕ). key (path E i ▸ c) 0 (start E i) f ≼ key z e s f′) (snoc-append p c l)
+    (≼-trans _ (key (p ▸ c) 0 s f) _
+    (key-end (start E i) s 0 f (path E i ▸ c) (p ▸ c) (key-more (start E i) s (path E i) p c early))
+    (key-prefix s e f f′ (p ▸ c) l h))
+
 -- A node that is known for a line is known for every later line.
 known-later :
     {E : List Entry} {y s : ℕ} {p : List ℕ} (s′ : ℕ) (p′ : List ℕ) → Known E y s p → lineKey p s ≼ lineKey p′ s′ → Known E y s′ p′
@@ -75,16 +85,6 @@ known-later s′ p′ k h = record { place = k .place; there = k .there; same = 
 
 module _
     (g : Graph) (E : List Entry) (Done : ℕ → ℕ → Type 0) (done? : (i c : ℕ) → Dec (Done i c)) (covers : Covers g E Done) where
-  -- If an entry comes no later than a line, then with one more lamp it comes no later than any line that goes on by this lamp.
-  on-early :
-      (i c s e f f′ : ℕ) (p l : List ℕ) → f ≤ f′ → keyOf E i ≼ lineKey p s →
-      key (path E i ▸ c) 0 (start E i) f ≼ key (p ++ (c ∷ l)) e s f′
-  on-early i c s e f f′ p l h early =
-      subst (λ (z : List ℕ). key (path E i ▸ c) 0 (start E i) f ≼ key z e s f′) (snoc-append p c l)
-      (≼-trans _ (key (p ▸ c) 0 s f) _
-      (key-end (start E i) s 0 f (path E i ▸ c) (p ▸ c) (key-more (start E i) s (path E i) p c early))
-      (key-prefix s e f f′ (p ▸ c) l h))
-
   -- One lamp further along the table.
   known-on :
       (s c x y : ℕ) (p : List ℕ) (k : Known E x s p) → Kind (g .kinds) c → Done (k .place) c → g .To x c y → Known E y s (p ▸ c)
@@ -109,8 +109,10 @@ module _
       go : Dec (Done (k .place) c) → Open g E Done s (p ++ (c ∷ l)) e f
       go (yes d) =
           lamp-fails (k .place) c (k .there) kind d (subst (λ (z : ℕ). g .Bad z c f) (sym (k .same)) h)
-          (on-early (k .place) c s e f f p l (omega arith) (k .early))
-      go (no d) = untried (k .place) c (k .there) kind d (on-early (k .place) c s e 0 f p l (omega arith) (k .early))
+          (on-early E (k .place) c s e f f p l (omega arith) (k .early))
+      go (no d) =
+          untried (k .place) c p l (k .there) kind d
+          (subst (λ (z : ℕ). FailsAlong g z (c ∷ l) e f) (sym (k .same)) (bad-lamp h)) (k .early) refl
   follow s p r k v (goes-on {x = x} {c = c} {y = y} {e = e} {f = f} {l = l} t d) =
       go (λ k′. follow s (p ▸ c) l k′ (v .2) d) (done? (k .place) c)
     where
@@ -122,7 +124,9 @@ module _
           Open g E Done s (p ++ (c ∷ l)) e f
       go after (yes d) =
           subst (λ (z : List ℕ). Open g E Done s z e f) (snoc-append p c l) (after (known-on s c x y p k kind d t))
-      go after (no d) = untried (k .place) c (k .there) kind d (on-early (k .place) c s e 0 f p l (omega arith) (k .early))
+      go after (no un) =
+          untried (k .place) c p l (k .there) kind un
+          (subst (λ (z : ℕ). FailsAlong g z (c ∷ l) e f) (sym (k .same)) (goes-on t d)) (k .early) refl
 
   -- Every failing line leaves the table somewhere.
   pub fails-open : (s : ℕ) (l : List ℕ) (e f : ℕ) → FailsFrom g s l e f → Open g E Done s l e f

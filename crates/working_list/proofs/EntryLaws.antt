@@ -1,43 +1,54 @@
 -- The entries of the list's words: a packed pair is unpacked to itself, a word stored after the others adds one entry, and each entry is
 -- given by its own word and the entries before it.
 use mathlib.Core.Path.{_≡_, refl, sym, ap, subst, _∙_}
+use mathlib.Core.Bool.{Bool, true, false, cond}
 use mathlib.Core.List.{List, [], _∷_, _++_}
-use Prim.Native.Nat.{ℕ, zero, suc, _+_, _*_, _/_, _%_, _≤_, _<_}
+use Prim.Native.Nat.{ℕ, zero, suc, _+_, _/_, _%_, _≤_, _<_}
 use native.Mathlib.Numerals.{add-one}
 use native.Mathlib.Omega.{arith}
+use borrow.Author.Tests.{eq-eqb, ne-eqb}
+use lib.Dec.{eqb}
 use lib.ListN.{length, getD, take, drop, set, take-append-drop, List·getD-append}
 use lib.Seq.{length-take-le, take-suc, take-suc-set, getD-take}
 use Rattle.run_laws.specs.inner.Pairs.{pairNumber}
 use Rattle.search_laws.specs.inner.Lists.{_▸_}
-use Rattle.search_laws.specs.inner.Entries.{Entry, entry, entryAt, node, start, path, grown}
+use Rattle.search_laws.specs.inner.Entries.{Entry, entry, entryAt, node, start, path, opens, grown}
 use Rattle.search_laws.proofs.Grown.{grown-length, grown-new}
 use Rattle.check_laws.specs.inner.Search.{lineStart, lineLamps}
 use Rattle.working_list.specs.declared.Placed.{Placed}
-use Rattle.working_list.specs.inner.Placing.{packed, unpacked, placedPair, placedEntry, entriesFrom, entries}
+use Rattle.working_list.specs.inner.Placing.{packed, unpacked, Packable, placedPair, placedEntry, entriesFrom, entries, MemberOf}
 
--- Unpacking the word of a placed pair gives the pair back.
-pub unpacked-packed :
-    (p : Placed) → p .state .0 < 128 → p .world .0 < 64 → p .place < 8192 → unpacked (packed p) ≡ p
-unfolding packed unpacked
-unpacked-packed p q w h =
-    rw (
-      state-is (p .world .0) (p .state .0) (p .place) (p .label) w q,
-      world-is (p .world .0) (p .state .0) (p .place) (p .label) w,
-      place-is (p .world .0) (p .state .0) (p .place) (p .label) w q h,
-      label-is (p .world .0) (p .state .0) (p .place) (p .label) w q h,
-    )
-  where
-    world-is : (w q h k : ℕ) → w < 64 → (w + 64 * (q + 128 * (h + 8192 * k))) % 64 ≡ w
-    world-is w q h k l = omega arith
+-- The bit of a truth value gives the value back.
+truth-back : (b : Bool) (n : ℕ) → n ≡ cond b 1 0 → eqb n 1 ≡ b
+truth-back true n e = eq-eqb n 1 e
+truth-back false n e = ne-eqb n 1 (λ f. omega arith)
 
-    state-is : (w q h k : ℕ) → w < 64 → q < 128 → (w + 64 * (q + 128 * (h + 8192 * k))) / 64 % 128 ≡ q
-    state-is w q h k l m = omega arith
+-- The numbers lie side by side in the word.
+module _ (p : Placed) (fits : Packable p) where
+  state-back : packed p / 64 % 128 ≡ p .state .0
+  unfolding packed
+  state-back = omega (arith, fits)
 
-    place-is : (w q h k : ℕ) → w < 64 → q < 128 → h < 8192 → (w + 64 * (q + 128 * (h + 8192 * k))) / 8192 % 8192 ≡ h
-    place-is w q h k l m n = omega arith
+  world-back : packed p % 64 ≡ p .world .0
+  unfolding packed
+  world-back = omega (arith, fits)
 
-    label-is : (w q h k : ℕ) → w < 64 → q < 128 → h < 8192 → (w + 64 * (q + 128 * (h + 8192 * k))) / 67108864 ≡ k
-    label-is w q h k l m n = omega arith
+  member-back : packed p / 8192 % 8192 ≡ p .member
+  unfolding packed
+  member-back = omega (arith, fits)
+
+  kind-back : packed p / 67108864 % 16 ≡ p .kind
+  unfolding packed
+  kind-back = omega (arith, fits)
+
+  opens-back : eqb (packed p / 1073741824) 1 ≡ p .opens
+  unfolding packed
+  opens-back = truth-back (p .opens) (packed p / 1073741824) (omega (arith, fits))
+
+  -- Unpacking the word of a placed pair gives the pair back.
+  pub unpacked-packed : unpacked (packed p) ≡ p
+  unfolding unpacked
+  unpacked-packed = rw (state-back, world-back, member-back, kind-back, opens-back)
 
 module _ (worlds : ℕ) where
   -- ---- the entries of a list of words
@@ -59,7 +70,7 @@ module _ (worlds : ℕ) where
   from-old E [] i l = refl
   from-old E (w ∷ ws) i l =
       from-old (grown E (placedEntry worlds E (unpacked w))) ws i (omega (arith, grown-length E (placedEntry worlds E (unpacked w))))
-      ∙ List·getD-append E (placedEntry worlds E (unpacked w) ∷ []) (entry 0 0 []) i l
+      ∙ List·getD-append E (placedEntry worlds E (unpacked w) ∷ []) (entry 0 0 [] true) i l
 
   -- Without words there is no entry.
   pub entries-none : entries worlds [] ≡ []
@@ -84,14 +95,14 @@ module _ (worlds : ℕ) where
 
   -- If the word of a placed pair is stored after the first n words, its entry comes after theirs.
   pub entries-stored :
-      (list : List ℕ) (n : ℕ) (p : Placed) → n < length list → p .state .0 < 128 → p .world .0 < 64 → p .place < 8192 →
+      (list : List ℕ) (n : ℕ) (p : Placed) → n < length list → Packable p →
       entries worlds (take (n + 1) (set list n (packed p)))
       ≡ grown (entries worlds (take n list)) (placedEntry worlds (entries worlds (take n list)) p)
-  entries-stored list n p l q w h =
+  entries-stored list n p l fits =
       rw (add-one n, take-suc-set list n (packed p) l)
       (entries-snoc (take n list) (packed p)
       ∙ ap (λ (r : Placed). grown (entries worlds (take n list)) (placedEntry worlds (entries worlds (take n list)) r))
-      (unpacked-packed p q w h))
+      (unpacked-packed p fits))
 
   -- ---- an entry by its place
 
@@ -131,23 +142,32 @@ module _ (worlds : ℕ) where
       ap (λ (v : Entry). v .node) (entry-placed (take n list) i (omega (arith, length-take-le n list h)))
       ∙ ap (λ (w : ℕ). pairNumber worlds (placedPair (unpacked w))) (getD-take n list i 0 l)
 
-  -- The entry at h has the start and the lamps of the line by which its pair was found.
-  module _ (ws : List ℕ) (h : ℕ) (l : h < length ws) (b : unpacked (getD ws h 0) .place ≤ h) where
-    abbrev p : Placed
-    p = unpacked (getD ws h 0)
+  -- An entry opens a group if its word says so.
+  pub entries-opens :
+      (list : List ℕ) (n i : ℕ) → i < n → n ≤ length list →
+      opens (entries worlds (take n list)) i ≡ unpacked (getD list i 0) .opens
+  entries-opens list n i l h =
+      ap (λ (v : Entry). v .opens) (entry-placed (take n list) i (omega (arith, length-take-le n list h)))
+      ∙ ap (λ (w : ℕ). unpacked w .opens) (getD-take n list i 0 l)
 
-    same : (i : ℕ) → i ≤ h →
-        (lineStart (entries worlds (take h ws)) i (p .label) ≡ lineStart (entries worlds ws) i (p .label))
-        × (lineLamps (entries worlds (take h ws)) i (p .label) ≡ lineLamps (entries worlds ws) i (p .label))
-    same zero m = (refl, refl)
-    same (suc i) m =
-        let from = entries-prefix ws i h (omega arith) (omega arith) in
-        (ap (λ (v : Entry). v .start) (sym from), ap (λ (v : Entry). v .path ▸ p .label) (sym from))
+  -- The entry at i has the start and the lamps of the line by which its pair was found.
+  module _
+      (ws : List ℕ) (i : ℕ) (l : i < length ws) (from : MemberOf i (unpacked (getD ws i 0) .member) (unpacked (getD ws i 0) .kind)) where
+    abbrev p : Placed
+    p = unpacked (getD ws i 0)
+
+    same : (k : ℕ) → (1 ≤ k → p .member < i) →
+        (lineStart (entries worlds (take i ws)) (p .member) k ≡ lineStart (entries worlds ws) (p .member) k)
+        × (lineLamps (entries worlds (take i ws)) (p .member) k ≡ lineLamps (entries worlds ws) (p .member) k)
+    same zero before = (refl, refl)
+    same (suc k) before =
+        let there = entries-prefix ws (p .member) i (before (omega arith)) (omega arith) in
+        (ap (λ (v : Entry). v .start) (sym there), ap (λ (v : Entry). v .path ▸ suc k) (sym there))
 
     -- The start is that line's.
-    pub start-before : start (entries worlds ws) h ≡ lineStart (entries worlds ws) (p .place) (p .label)
-    start-before = ap (λ (v : Entry). v .start) (entry-placed ws h l) ∙ same (p .place) b .0
+    pub start-before : start (entries worlds ws) i ≡ lineStart (entries worlds ws) (p .member) (p .kind)
+    start-before = ap (λ (v : Entry). v .start) (entry-placed ws i l) ∙ same (p .kind) (from .a-place) .0
 
     -- So are the lamps.
-    pub lamps-before : path (entries worlds ws) h ≡ lineLamps (entries worlds ws) (p .place) (p .label)
-    lamps-before = ap (λ (v : Entry). v .path) (entry-placed ws h l) ∙ same (p .place) b .1
+    pub lamps-before : path (entries worlds ws) i ≡ lineLamps (entries worlds ws) (p .member) (p .kind)
+    lamps-before = ap (λ (v : Entry). v .path) (entry-placed ws i l) ∙ same (p .kind) (from .a-place) .1

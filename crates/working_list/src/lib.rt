@@ -8,11 +8,13 @@ use lamp_line::WorldState;
 pub mod line;
 pub mod list;
 
-// A pair in the working list, with the place and the label by which it was found. The pair at index i has place i + 1. The labels are
-// the starts at place 0 and the kinds of lamps at all others.
+// A pair in the working list, with the member and the kind of lamp by which it was found: with kind 0 the member is a start, with any other
+// kind it is the place of a pair in the list. Pairs that were found by the same line stand together, as a group; `opens` says that the
+// pair is the first of its group (02, (f)).
 pub struct Placed {
     pub state: ProgramState,
     pub world: WorldState,
-    pub place: usize,
-    pub label: u8,
+    pub member: usize,
+    pub kind: u8,
+    pub opens: bool,
 }

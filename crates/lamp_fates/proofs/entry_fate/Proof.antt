@@ -1,12 +1,13 @@
 -- Each test is the definition's, in its order.
 use borrow.Author.Needs.{needs}
+use borrow.Author.Tests.{lt-ltb}
 use mathlib.Core.Path.{sym}
 use Rattle.lamp_fates.proofs.Entries.{from-arrivals, from-goal-false}
 use Rattle.lamp_fates.proofs.entry_fate.Statement.{statement}
 use Rattle.lamp_fates.proofs.entry_fate.Tie as tie
 
 returns : tie.Need-returns
-returns c = rw (c .if1 .taken)
+returns c = rw (lt-ltb _ _ (c .if1 .taken))
 
 returns-2 : tie.Need-returns-2
 returns-2 c = rw (c .if2 .taken)

@@ -35,10 +35,10 @@ fateEntry (ended Goal k) = 1
 fateEntry (ended (Failure kind) k) = 1 + kindNumber kind
 fateEntry (arrived p k) = 16 + pairCode p
 
--- The fate that an entry stands for.
+-- The fate that an entry stands for. 0 and links stand for none, and are not asked for.
 abbrev pub fateFrom : ℕ → Walk
 fateFrom entry =
-    cond (eqb entry 1) (ended Goal 0)
+    cond (ltb entry 2) (ended Goal 0)
     (cond (eqb entry 2) (ended (Failure NotLegal) 0)
     (cond (eqb entry 3) (ended (Failure NoBranch) 0)
     (cond (eqb entry 4) (ended (Failure Circles) 0)

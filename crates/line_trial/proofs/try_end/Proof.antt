@@ -11,11 +11,11 @@ use Rattle.line_trial.proofs.try_end.Statement.{statement}
 use Rattle.line_trial.proofs.try_end.Tie as tie
 
 abbrev Inv-loop : tie.InvT-loop
-Inv-loop file job memory₀ list words count place label end lamp state₀ world₀ column₀ memory state world column =
-    Trying file job memory list words count place label end state world column × (length memory ≡ length memory₀)
+Inv-loop file job memory₀ list words count member kind end lamp state₀ world₀ column₀ memory state world column =
+    Trying file job memory list words count member kind end state world column × (length memory ≡ length memory₀)
 
 abbrev μ-loop : tie.MeasureT-loop
-μ-loop file job memory₀ list words count place label end lamp state₀ world₀ column₀ memory state world column = column
+μ-loop file job memory₀ list words count member kind end lamp state₀ world₀ column₀ memory state world column = column
 
 -- ---- earlier points of the function
 

@@ -12,12 +12,12 @@ use Rattle.line_trial.proofs.try_line.Statement.{statement}
 use Rattle.line_trial.proofs.try_line.Tie as tie
 
 abbrev Inv-loop : tie.InvT-loop
-Inv-loop file job memory₀ list words count place label end₀ memory end =
-    Ready file job memory × (end ≤ job .ends) × TriedBelow (tablesBy file job) (table (tablesBy file job) list count) place label end
+Inv-loop file job memory₀ list words count member kind end₀ memory end =
+    Ready file job memory × (end ≤ job .ends) × TriedBelow (tablesBy file job) (table (tablesBy file job) list count) member kind end
     × (length memory ≡ length memory₀)
 
 abbrev μ-loop : tie.MeasureT-loop
-μ-loop file job memory₀ list words count place label end₀ memory end = job .ends - end
+μ-loop file job memory₀ list words count member kind end₀ memory end = job .ends - end
 
 -- ---- earlier points of the function
 
@@ -68,7 +68,7 @@ same-length-2 c =
 returns-2 : tie.Need-returns-2 Inv-loop μ-loop
 returns-2 c =
     let n = at-new (c .before) in
-    all-ends-tried (at-try (n .before .before) .try-end .ensures) (n .tried .given .1) (c .if1 .taken)
+    all-ends-tried (at-try (n .before .before) .try-end .ensures) (n .tried .given .1) (omega (arith, c .if1 .taken))
 
 add-end : tie.Need-add-end Inv-loop μ-loop
 add-end c = search needs

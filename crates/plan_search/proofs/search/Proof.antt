@@ -1,4 +1,4 @@
--- The answer of `search_places` decides; for a failure, its line is written.
+-- The answer of `search_groups` decides; for a failure, its line is written.
 use borrow.Author.Needs.{needs}
 use mathlib.Core.Path.{sym}
 use native.Mathlib.Omega.{arith}
@@ -9,11 +9,11 @@ use Rattle.plan_search.proofs.search.Tie as tie
 
 -- ---- earlier points of the function
 
--- From where the answer of `search_places` is looked at to where it was given, and from there to the start.
-abbrev at-search : tie.After-slice-known7 → tie.After-search-places
+-- From where the answer of `search_groups` is looked at to where it was given, and from there to the start.
+abbrev at-search : tie.After-slice-known7 → tie.After-search-groups
 at-search k = k .before .before .before .before .before .before
 
-abbrev start : tie.After-search-places → tie.Start
+abbrev start : tie.After-search-groups → tie.Start
 start p = p .before .before .before .before .before .before .before .before .before
 
 -- From where the line is written to the failure.
@@ -22,8 +22,8 @@ at-failure k = k .before .before .before
 
 -- ---- the answers
 
-search-places-requires : tie.Need-search-places-requires
-search-places-requires c κs = search needs
+search-groups-requires : tie.Need-search-groups-requires
+search-groups-requires c κs = search needs
 
 enum-known-halted : tie.Need-enum-known-halted
 enum-known-halted c = search needs
@@ -34,25 +34,25 @@ enum-known-halted-2 c = search needs
 slice-reshare-prefix-write-line : tie.Need-slice-reshare-prefix-write-line
 slice-reshare-prefix-write-line c =
     let h = c .before in
-    words-held (at-search (h .before .before) .search-places .ensures) (h .halted2 .given .1)
+    words-held (at-search (h .before .before) .search-groups .ensures) (h .halted2 .given .1)
 
 slice-aggregate-write-line : tie.Need-slice-aggregate-write-line
 slice-aggregate-write-line c =
     let h = c .before .before in
-    sym (taken-size (at-search (h .before .before) .search-places .ensures) (h .halted2 .given .1))
+    sym (taken-size (at-search (h .before .before) .search-groups .ensures) (h .halted2 .given .1))
 
 write-line-requires : tie.Need-write-line-requires
 write-line-requires c κs =
     let h = at-failure c in
     let p = at-search (h .before .before) in
     let b = start p in
-    writable (p .search-places .ensures) (h .halted2 .given .1) (ready-tables (b .pre .0)) (b .pre .1 .line-room)
+    writable (p .search-groups .ensures) (h .halted2 .given .1) (ready-tables (b .pre .0)) (b .pre .1 .line-room)
 
 cast-t28 : tie.Need-cast-t28
 cast-t28 c =
     let h = at-failure (c .before .before .before) in
     let p = at-search (h .before .before) in
-    omega (arith, lamps-few (p .search-places .ensures) (h .halted2 .given .1) (ready-tables (start p .pre .0)))
+    omega (arith, lamps-few (p .search-groups .ensures) (h .halted2 .given .1) (ready-tables (start p .pre .0)))
 
 same-length : tie.Need-same-length
 same-length c = search needs
@@ -66,7 +66,7 @@ same-length-3 c = search needs
 returns : tie.Need-returns
 returns c =
     let h = c .before in
-    finds-none (at-search (h .before .before) .search-places .ensures) (h .halted .given .1)
+    finds-none (at-search (h .before .before) .search-groups .ensures) (h .halted .given .1)
 
 same-length-4 : tie.Need-same-length-4
 same-length-4 c = search needs
@@ -86,14 +86,14 @@ returns-2 c =
     let h = at-failure (w .before) in
     let p = at-search (h .before .before) in
     let b = start p in
-    finds-line (p .search-places .ensures) (h .halted2 .given .1) (ready-tables (b .pre .0)) (b .pre .1 .line-room)
+    finds-line (p .search-groups .ensures) (h .halted2 .given .1) (ready-tables (b .pre .0)) (b .pre .1 .line-room)
     (w .write-line .kept .1 .0) (w .write-line .ensures _)
 
 pub search-spec : {M : Type 1} → statement M
 search-spec =
     tie.close
     (tie.spec
-    search-places-requires
+    search-groups-requires
     enum-known-halted
     enum-known-halted-2
     slice-reshare-prefix-write-line

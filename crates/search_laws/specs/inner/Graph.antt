@@ -45,12 +45,10 @@ module _ (g : Graph) where
     pub ended : e < g .endCount
     pub fails : FailsAlong first l e f
 
--- Each start has one node, which no other start has. At each kind of lamp a node has at most one edge or one failure, and not both;
--- at each kind of end it has at most one failure.
+-- Each start has one node, which no other start has. At each kind of lamp a node has at most one edge or one failure, and not both.
 pub record Plain (g : Graph) : Type 0 where
   pub start-one : (s x x′ : ℕ) → g .Start s x → g .Start s x′ → x ≡ x′
   pub start-own : (s s′ x : ℕ) → g .Start s x → g .Start s′ x → s ≡ s′
   pub to-one : (x c y y′ : ℕ) → g .To x c y → g .To x c y′ → y ≡ y′
   pub bad-one : (x c f f′ : ℕ) → g .Bad x c f → g .Bad x c f′ → f ≡ f′
   pub bad-to : (x c f y : ℕ) → g .Bad x c f → ¬ (g .To x c y)
-  pub end-one : (x e f f′ : ℕ) → g .BadEnd x e f → g .BadEnd x e f′ → f ≡ f′

@@ -8,7 +8,7 @@ use Rattle.run_laws.specs.inner.Pairs.{InRange, pairs}
 use Rattle.pair_bits.specs.Sum.{bitAt, SumIs}
 use Rattle.search_laws.specs.inner.Entries.{Entry}
 use Rattle.check_laws.specs.inner.Search.{met}
-use Rattle.working_list.specs.inner.Placing.{unpacked, placedPair, entries}
+use Rattle.working_list.specs.inner.Placing.{unpacked, placedPair, entries, MemberOf}
 
 -- The entries of the first n words of the list.
 abbrev pub table : Tables → List ℕ → ℕ → List Entry
@@ -20,9 +20,9 @@ pub record Listed (t : Tables) (list words : List ℕ) (n : ℕ) : Type 0 where
   pub bits : (y : ℕ) → y < pairs t → bitAt words y ≡ met (table t list n) y
   -- As many bits are set as the list has words.
   pub counted : SumIs words (pairs t) n
-  -- The pairs are those of the tables, each found at place 0 or at the place of a pair before it.
+  -- The pairs are those of the tables, each found from a start or from a pair before it.
   pub ranges : (i : ℕ) → i < n → InRange t (placedPair (unpacked (getD list i 0)))
-  pub chained : (i : ℕ) → i < n → unpacked (getD list i 0) .place ≤ i
+  pub chained : (i : ℕ) → i < n → MemberOf i (unpacked (getD list i 0) .member) (unpacked (getD list i 0) .kind)
   -- There is room for all pairs.
   pub list-room : pairs t ≤ length list
   pub bits-room : pairs t ≤ length words * 64

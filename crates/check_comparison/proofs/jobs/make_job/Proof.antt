@@ -8,10 +8,10 @@ use Rattle.check_comparison.proofs.jobs.make_job.Statement.{statement}
 use Rattle.check_comparison.proofs.jobs.make_job.Tie as tie
 
 abbrev Inv-loop : tie.InvT-loop
-Inv-loop job file₀ i₀ file i = (i ≤ 125) × (length file ≡ 125)
+Inv-loop job file₀ i₀ file i = (i ≤ 153) × (length file ≡ 153)
 
 abbrev μ-loop : tie.MeasureT-loop
-μ-loop job file₀ i₀ file i = 125 - i
+μ-loop job file₀ i₀ file i = 153 - i
 
 head-requires : tie.Need-head-requires Inv-loop μ-loop
 head-requires c κs = search needs

@@ -5,16 +5,16 @@ use Rattle.check_comparison.proofs.plain_search.failing_end.Statement.{
 use Rattle.check_comparison.proofs.plain_search.failing_end.Tie as tie
 
 abbrev Inv-loop : tie.InvT-loop
-Inv-loop file ends start line end₀ end = end ≤ ends
+Inv-loop file starts line ends end₀ end = end ≤ ends
 
 abbrev μ-loop : tie.MeasureT-loop
-μ-loop file ends start line end₀ end = ends - end
+μ-loop file starts line ends end₀ end = ends - end
 
 loop-holds : tie.Need-loop-holds Inv-loop μ-loop
 loop-holds c = search needs
 
-run-end-requires : tie.Need-run-end-requires Inv-loop μ-loop
-run-end-requires c κs = search needs
+failing-start-requires : tie.Need-failing-start-requires Inv-loop μ-loop
+failing-start-requires c κs = search needs
 
 returns : tie.Need-returns Inv-loop μ-loop
 returns c = search needs
@@ -28,8 +28,8 @@ loop-less c = search needs
 loop-again : tie.Need-loop-again Inv-loop μ-loop
 loop-again c = search needs
 
-run-end-requires-2 : tie.Need-run-end-requires-2 Inv-loop μ-loop
-run-end-requires-2 c κs = search needs
+failing-start-requires-2 : tie.Need-failing-start-requires-2 Inv-loop μ-loop
+failing-start-requires-2 c κs = search needs
 
 returns-2 : tie.Need-returns-2 Inv-loop μ-loop
 returns-2 c = search needs
@@ -41,10 +41,10 @@ failing-end-spec =
     Inv-loop
     μ-loop
     loop-holds
-    run-end-requires
+    failing-start-requires
     returns
     add-end
     loop-less
     loop-again
-    run-end-requires-2
+    failing-start-requires-2
     returns-2)

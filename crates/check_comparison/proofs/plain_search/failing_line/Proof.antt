@@ -8,10 +8,13 @@ use Rattle.check_comparison.proofs.plain_search.failing_line.Statement.
 use Rattle.check_comparison.proofs.plain_search.failing_line.Tie as tie
 
 abbrev Inv-loop : tie.InvT-loop
-Inv-loop file shape start line₀ lines number₀ line number = (number ≤ lines) × (length line ≡ length line₀)
+Inv-loop file starts line₀ shape lines number₀ line number = (number ≤ lines) × (length line ≡ length line₀)
 
 abbrev μ-loop : tie.MeasureT-loop
-μ-loop file shape start line₀ lines number₀ line number = lines - number
+μ-loop file starts line₀ shape lines number₀ line number = lines - number
+
+shape-of-requires : tie.Need-shape-of-requires Inv-loop μ-loop
+shape-of-requires c κs = search needs
 
 lines-of-requires : tie.Need-lines-of-requires Inv-loop μ-loop
 lines-of-requires c κs = search needs
@@ -52,6 +55,7 @@ failing-line-spec =
     (tie.spec
     Inv-loop
     μ-loop
+    shape-of-requires
     lines-of-requires
     loop-holds
     failing-end-requires

@@ -1,26 +1,20 @@
--- The line keeps its length; the measure is the number of starts left.
+-- The starts are tried in order; the measure is the number of starts left.
 use borrow.Author.Needs.{needs}
 use Prim.Native.Nat.{_≤_, _-_}
-use mathlib.Core.Path.{_≡_, refl}
-use lib.ListN.{length}
-use native.Mathlib.Omega.{arith}
 use Rattle.check_comparison.proofs.plain_search.failing_start.Statement.{statement}
 use Rattle.check_comparison.proofs.plain_search.failing_start.Tie as tie
 
 abbrev Inv-loop : tie.InvT-loop
-Inv-loop file shape line₀ start₀ line start = (start ≤ shape .worlds) × (length line ≡ length line₀)
+Inv-loop file starts line end start₀ start = start ≤ 255
 
 abbrev μ-loop : tie.MeasureT-loop
-μ-loop file shape line₀ start₀ line start = shape .worlds - start
+μ-loop file starts line end start₀ start = starts .until - start
 
 loop-holds : tie.Need-loop-holds Inv-loop μ-loop
-loop-holds c = (omega arith, refl)
+loop-holds c = search needs
 
-failing-line-requires : tie.Need-failing-line-requires Inv-loop μ-loop
-failing-line-requires c κs = search needs
-
-same-length : tie.Need-same-length Inv-loop μ-loop
-same-length c = search needs
+run-end-requires : tie.Need-run-end-requires Inv-loop μ-loop
+run-end-requires c κs = search needs
 
 returns : tie.Need-returns Inv-loop μ-loop
 returns c = search needs
@@ -34,9 +28,6 @@ loop-less c = search needs
 loop-again : tie.Need-loop-again Inv-loop μ-loop
 loop-again c = search needs
 
-same-length-2 : tie.Need-same-length-2 Inv-loop μ-loop
-same-length-2 c = search needs
-
 returns-2 : tie.Need-returns-2 Inv-loop μ-loop
 returns-2 c = search needs
 
@@ -47,11 +38,9 @@ failing-start-spec =
     Inv-loop
     μ-loop
     loop-holds
-    failing-line-requires
-    same-length
+    run-end-requires
     returns
     add-start
     loop-less
     loop-again
-    same-length-2
     returns-2)

@@ -9,38 +9,29 @@ use Rattle.check_comparison.proofs.plain_search.first_failing.Statement
 use Rattle.check_comparison.proofs.plain_search.first_failing.Tie as tie
 
 abbrev Inv-loop : tie.InvT-loop
-Inv-loop file buffer₀ shape lamps₀ buffer lamps = (lamps ≤ length buffer₀ + 1) × (length buffer ≡ length buffer₀)
+Inv-loop file starts buffer₀ lamps₀ buffer lamps = (lamps ≤ length buffer₀ + 1) × (length buffer ≡ length buffer₀)
 
 abbrev μ-loop : tie.MeasureT-loop
-μ-loop file buffer₀ shape lamps₀ buffer lamps = length buffer₀ + 1 - lamps
-
-shape-of-requires : tie.Need-shape-of-requires Inv-loop μ-loop
-shape-of-requires c κs = search needs
+μ-loop file starts buffer₀ lamps₀ buffer lamps = length buffer₀ + 1 - lamps
 
 loop-holds : tie.Need-loop-holds Inv-loop μ-loop
 loop-holds c = (omega arith, refl)
 
-slice-relend-prefix-failing-start : tie.Need-slice-relend-prefix-failing-start Inv-loop μ-loop
-slice-relend-prefix-failing-start c = search needs
+slice-relend-prefix-failing-line : tie.Need-slice-relend-prefix-failing-line Inv-loop μ-loop
+slice-relend-prefix-failing-line c = search needs
 
-slice-aggregate-failing-start : tie.Need-slice-aggregate-failing-start Inv-loop μ-loop
-slice-aggregate-failing-start c =
+slice-aggregate-failing-line : tie.Need-slice-aggregate-failing-line Inv-loop μ-loop
+slice-aggregate-failing-line c =
     let t = c .before in sym (length-take-le (t .before .loop .lamps) (t .before .loop .buffer) (t .loop-test .taken))
 
-failing-start-requires : tie.Need-failing-start-requires Inv-loop μ-loop
-failing-start-requires c κs = search needs
-
-enum-known-found : tie.Need-enum-known-found Inv-loop μ-loop
-enum-known-found c = search needs
+failing-line-requires : tie.Need-failing-line-requires Inv-loop μ-loop
+failing-line-requires c κs = search needs
 
 same-length : tie.Need-same-length Inv-loop μ-loop
 same-length c = search needs
 
 returns : tie.Need-returns Inv-loop μ-loop
 returns c = search needs
-
-enum-told : tie.Need-enum-told Inv-loop μ-loop
-enum-told c = search needs
 
 add-lamps : tie.Need-add-lamps Inv-loop μ-loop
 add-lamps c = search needs
@@ -63,15 +54,12 @@ first-failing-spec =
     (tie.spec
     Inv-loop
     μ-loop
-    shape-of-requires
     loop-holds
-    slice-relend-prefix-failing-start
-    slice-aggregate-failing-start
-    failing-start-requires
-    enum-known-found
+    slice-relend-prefix-failing-line
+    slice-aggregate-failing-line
+    failing-line-requires
     same-length
     returns
-    enum-told
     add-lamps
     loop-less
     loop-again

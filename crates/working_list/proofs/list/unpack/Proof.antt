@@ -14,12 +14,12 @@ cast-t7 c = search needs
 cast-t11 : tie.Need-cast-t11
 cast-t11 c = search needs
 
-cast-t13 : tie.Need-cast-t13
-cast-t13 c = search needs
+cast-t14 : tie.Need-cast-t14
+cast-t14 c = search needs
 
 returns : tie.Need-returns
 unfolding unpacked
 returns c = refl
 
 pub unpack-spec : {M : Type 1} → statement M
-unpack-spec = tie.close (tie.spec cast-t4 cast-t7 cast-t11 cast-t13 returns)
+unpack-spec = tie.close (tie.spec cast-t4 cast-t7 cast-t11 cast-t14 returns)

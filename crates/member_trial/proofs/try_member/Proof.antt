@@ -1,12 +1,12 @@
--- A failure is handed on; if nothing is new, all stays as it is; a new pair is put in the list.
+-- A failure is handed on; if nothing is new, all stays as it is; a new pair is put in the list, unless a member has failed.
 use borrow.Author.Needs.{needs}
 use mathlib.Core.Path.{refl}
 use native.Mathlib.Omega.{arith}
 use Rattle.job_layout.specs.JobTables.{tablesBy}
-use Rattle.plan_search.proofs.NewPairs.{NewPair, new-pair, few-pairs, list-has-room, bit-has-room, packable, turn-placed}
+use Rattle.member_trial.proofs.NewPairs.{NewPair, new-pair, few-pairs, list-has-room, bit-has-room, packable, nothing-new, pair-placed, pair-passed}
 use Rattle.line_trial.proofs.LineTried.{tries-fails, tries-nothing}
-use Rattle.plan_search.proofs.one_turn.Statement.{statement}
-use Rattle.plan_search.proofs.one_turn.Tie as tie
+use Rattle.member_trial.proofs.try_member.Statement.{statement}
+use Rattle.member_trial.proofs.try_member.Tie as tie
 
 -- ---- earlier points of the function
 
@@ -19,7 +19,7 @@ start v = v .before .before .before .before .before .before .before .before
 
 -- From the pair's number, and from where its bit is set, to where the pair was found.
 abbrev at-new : tie.After-pair-number → tie.After-tried2
-at-new p = p .before .before .before
+at-new p = p .before .before .before .before
 
 abbrev at-number : tie.After-slice-known5 → tie.After-pair-number
 at-number k = k .before .before .before
@@ -28,7 +28,7 @@ at-number k = k .before .before .before
 new :
     (n : tie.After-tried2) →
     let a = start (at-try (n .before .before)) .args in
-    NewPair (tablesBy (a .file .now) (a .job)) (a .list .now) (a .words .now) (a .count) (a .place) (a .label) (n .tried2 .given .0 .0)
+    NewPair (tablesBy (a .file .now) (a .job)) (a .list .now) (a .words .now) (a .count) (a .member) (a .kind) (n .tried2 .given .0 .0)
     (n .tried2 .given .0 .1 .0)
 new n =
     let v = at-try (n .before .before) in
@@ -55,7 +55,7 @@ set-bit-requires : tie.Need-set-bit-requires
 set-bit-requires c κs = omega (arith, c .pair-number .ensures, bit-has-room (new (at-new c)))
 
 pack-requires : tie.Need-pack-requires
-pack-requires c κs = packable (new (at-new (at-number c)))
+pack-requires c κs = packable (new (at-new (at-number c))) _
 
 mul-list : tie.Need-mul-list
 mul-list c = omega (arith, few-pairs (new (at-new (at-number (c .before)))))
@@ -63,8 +63,8 @@ mul-list c = omega (arith, few-pairs (new (at-new (at-number (c .before)))))
 slice-write-list : tie.Need-slice-write-list
 slice-write-list c = omega (arith, list-has-room (new (at-new (at-number (c .before)))))
 
-add-t25 : tie.Need-add-t25
-add-t25 c = omega (arith, few-pairs (new (at-new (at-number (c .before)))))
+add-t28 : tie.Need-add-t28
+add-t28 c = omega (arith, few-pairs (new (at-new (at-number (c .before)))))
 
 same-length : tie.Need-same-length
 same-length c = search needs
@@ -77,9 +77,12 @@ same-length-3 c = search needs
 
 returns : tie.Need-returns
 returns c =
-    let n = c .before in
-    let v = at-try (n .before .before) in
-    (record { turn-is = tries-fails (v .try-line .ensures) (n .tried .given .1); left = refl }, v .try-line .ensures .remembers)
+    let p = at-number (c .before) in
+    let n = at-new p in (
+      pair-placed (new n) _ (p .before .before .if1 .taken) (c .pack .ensures) (p .pair-number .ensures)
+          (c .before .before .before .set-bit .ensures),
+      at-try (n .before .before) .try-line .ensures .remembers,
+    )
 
 same-length-4 : tie.Need-same-length-4
 same-length-4 c = search needs
@@ -92,13 +95,9 @@ same-length-6 c = search needs
 
 returns-2 : tie.Need-returns-2
 returns-2 c =
-    let v = at-try (c .before .before) in (
-      record {
-        turn-is = tries-nothing (v .try-line .ensures) (c .enum-told .given .1);
-        left = (omega arith, start v .pre .1);
-      },
-      v .try-line .ensures .remembers,
-    )
+    let n = c .before in
+    let v = at-try (n .before .before) in
+    (record { so = (tries-fails (v .try-line .ensures) (n .tried .given .1), refl, start v .pre .1) }, v .try-line .ensures .remembers)
 
 same-length-7 : tie.Need-same-length-7
 same-length-7 c = search needs
@@ -111,14 +110,27 @@ same-length-9 c = search needs
 
 returns-3 : tie.Need-returns-3
 returns-3 c =
-    let p = at-number (c .before) in
-    let n = at-new p in (
-      turn-placed (new n) (c .pack .ensures) (p .pair-number .ensures) (c .before .before .before .set-bit .ensures),
-      at-try (n .before .before) .try-line .ensures .remembers,
+    let v = at-try (c .before .before) in (
+      nothing-new (start v .args .clean) (start v .pre .1) (tries-nothing (v .try-line .ensures) (c .enum-told .given .1)),
+      v .try-line .ensures .remembers,
     )
 
-pub one-turn-spec : {M : Type 1} → statement M
-one-turn-spec =
+same-length-10 : tie.Need-same-length-10
+same-length-10 c = search needs
+
+same-length-11 : tie.Need-same-length-11
+same-length-11 c = search needs
+
+same-length-12 : tie.Need-same-length-12
+same-length-12 c = search needs
+
+returns-4 : tie.Need-returns-4
+returns-4 c =
+    let n = c .before .before in
+    (pair-passed (new n) _ (c .if1 .left), at-try (n .before .before) .try-line .ensures .remembers)
+
+pub try-member-spec : {M : Type 1} → statement M
+try-member-spec =
     tie.close
     (tie.spec
     try-line-requires
@@ -130,7 +142,7 @@ one-turn-spec =
     pack-requires
     mul-list
     slice-write-list
-    add-t25
+    add-t28
     same-length
     same-length-2
     same-length-3
@@ -142,4 +154,8 @@ one-turn-spec =
     same-length-7
     same-length-8
     same-length-9
-    returns-3)
+    returns-3
+    same-length-10
+    same-length-11
+    same-length-12
+    returns-4)
