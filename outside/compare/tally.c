@@ -110,8 +110,10 @@ static void keep_handed(void)
 
 static void tell_place(void)
 {
-    printf("first difference: trial %" PRIu32 " (seen again by `compare only %" PRIu32 "`), %s", place.number, place.number,
-           known[place.operation].name);
+    printf("first difference: ");
+    if (place.number != NO_TRIAL)
+        printf("trial %" PRIu32 " (seen again by `compare only %" PRIu32 "`), ", place.number, place.number);
+    printf("%s", known[place.operation].name);
     for (int i = 0; i < MOST_ARGUMENTS && known[place.operation].arguments[i] != NULL; i++)
         printf(" %s %" PRIu64, known[place.operation].arguments[i], place.arguments[i]);
     printf("\n");

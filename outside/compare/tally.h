@@ -11,8 +11,9 @@ enum operation { READ, WALK, RUN, CHECK, CHECK_UP_TO, BEGIN, ACTION, REPORT, REP
 
 /* Where the test is: told with the first difference, so that it can be seen again. */
 enum { MOST_ARGUMENTS = 6 };
+#define NO_TRIAL UINT32_MAX
 struct place {
-    uint32_t number; /* of the trial */
+    uint32_t number; /* of the trial, or NO_TRIAL where a fuzzer has made up what is tried */
     const struct file *file;
     const struct rules *rules; /* of a fill, which is not handed the file */
     const uint64_t *words;     /* of a sum, which is not either */

@@ -1,5 +1,5 @@
 /*
- * The layout of a job file, bench line G, a job of three end kinds, and the README's examples.
+ * The layout of a job file, bench line G, a job of three end kinds, and the samples of a walk and of a street.
  */
 #include "job_files.h"
 
@@ -227,7 +227,7 @@ void three_ends_job(struct job *job)
     set_row(job, 3, THREE_SET_FUSE, 4, NONE);
 }
 
-/* ---- The README's examples ---- */
+/* ---- The samples of a walk and of a street ---- */
 
 enum { EXAMPLE_PEEK, EXAMPLE_NEXT };
 

@@ -1,6 +1,6 @@
 /*
  * A job as tables (document 01, "The line and its tables", and document 02, (c)), its file (document 01, "Job file"), bench line
- * G, a job of three end kinds, and the README's examples.
+ * G, a job of three end kinds, and the samples of a walk and of a street.
  */
 #ifndef OUTSIDE_JOB_FILES_H
 #define OUTSIDE_JOB_FILES_H
@@ -99,10 +99,10 @@ void bench_line(struct job *job, enum bench_variant variant);
 enum { CAP, JOINT_BOX, FUSE_BOX, THREE_ENDS }; /* its end kinds, and their number */
 void three_ends_job(struct job *job);
 
-/* The README's first example: a plan that walks a line of one kind of lamp to its end. */
+/* samples/walk.job: a plan that walks a line of one kind of lamp to its end. */
 void example_job(struct job *job);
 
-/* The README's street: a plan that fits a fuse to each dark lamp. Its cells are those that samples/street.rules gives. */
+/* samples/street.job: a plan that fits a fuse to each dark lamp. Its cells are those that samples/street.rules gives. */
 void street_job(struct job *job);
 
 #endif

@@ -1,6 +1,6 @@
 /*
  * Rules files (document 02, (e)), each with the numbers that a caller gives with it; rules for the cells of bench line G, for
- * those of the job of three end kinds, and for those of the README's street.
+ * those of the job of three end kinds, and for those of the samples' street.
  */
 #ifndef OUTSIDE_RULES_FILES_H
 #define OUTSIDE_RULES_FILES_H

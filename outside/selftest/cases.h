@@ -62,7 +62,7 @@ void take_bench(enum bench_variant variant);
 /* The job of three end kinds becomes the job at hand. */
 void take_three_ends(void);
 
-/* The README's street becomes the job at hand. */
+/* The samples' street becomes the job at hand. */
 void take_street(void);
 
 /*

@@ -1,6 +1,6 @@
 /*
  * Cells from rules (02, (e)): values known beforehand, the cells of bench line G, of the job of three end kinds and of the
- * README's street, every refusal, and random rules files against the cells written rule by rule.
+ * samples' street, every refusal, and random rules files against the cells written rule by rule.
  */
 #include "brute_rules.h"
 #include "cases.h"
@@ -149,7 +149,7 @@ static void known_jobs(void)
     expect_filled("the street from rules", file.bytes + 31, 72);
 }
 
-/* The README's job of the filled part, and its plan that goes on from a dark lamp as from a lit one. */
+/* The street's job of the filled part, and its plan that goes on from a dark lamp as from a lit one. */
 static void street(void)
 {
     enum { TO_IF_DARK = 122, DARK = 2 }; /* the place of a target, and a lamp kind */

@@ -1,8 +1,9 @@
 /*
- * The files in samples/, which are looked for in the repository's root: each is that of a job, or of rules, which other cases are
- * about.
+ * The files in samples/, which are looked for in the repository's root. Some are of jobs, or of rules, which other cases are
+ * about, or of such a job with a mistake in its plan. Beside each job is the line that the program prints for it.
  */
 #include "cases.h"
+#include "job_files/families.h"
 #include "job_files/rules_files.h"
 
 #include <stdio.h>
@@ -13,6 +14,7 @@ static struct file sample;
 static void read_sample(const char *name)
 {
     FILE *const from = fopen(name, "rb");
+    expect(name, from != NULL, true);
     sample.size = 0;
     if (from == NULL)
         return;
@@ -20,14 +22,21 @@ static void read_sample(const char *name)
     fclose(from);
 }
 
-static void expect_bytes(const char *name, const uint8_t *bytes, size_t size)
+static void expect_bytes(const char *name, const void *bytes, size_t size)
 {
     read_sample(name);
     expect(name, sample.size, size);
     expect(name, memcmp(sample.bytes, bytes, size) == 0, true);
 }
 
-static void expect_sample(const char *name) { expect_bytes(name, file.bytes, file.size); }
+/* ---- Known jobs and rules ---- */
+
+/* The job at hand. */
+static void expect_sample(const char *name)
+{
+    write_job();
+    expect_bytes(name, file.bytes, file.size);
+}
 
 static void expect_street_rules(void)
 {
@@ -36,11 +45,119 @@ static void expect_street_rules(void)
     expect_bytes("samples/street.rules", rules.bytes, rules.size);
 }
 
-void sample_cases(void)
+static void expect_three_ends(void)
+{
+    take_three_ends();
+    expect_sample("samples/three_ends.job");
+    job.target[0][FUSE_BOX] = NONE;
+    expect_sample("samples/three_ends_no_fuse_box.job");
+}
+
+/* A look's result is the lamp's kind. */
+static void expect_street(void)
+{
+    enum { LIT = 1, DARK = 2 };
+    take_street();
+    expect_sample("samples/street.job");
+    job.target[0][DARK] = job.target[0][LIT];
+    expect_sample("samples/street_left_dark.job");
+}
+
+/* The least numbers with which counting goes as far as with the largest. */
+static void expect_counting(void)
+{
+    job = (struct job){0};
+    set_numbers(&job, (struct job_numbers){.actions = 8, .worlds = 64, .kinds = 7, .results = 8, .states = 64});
+    counting_job(&job, 64);
+    expect_sample("samples/fails_from_3585_lamps.job");
+}
+
+static void known_samples(void)
 {
     take_bench(BENCH_G);
     expect_sample("samples/bench_g.job");
-    take_three_ends();
-    expect_sample("samples/three_ends.job");
+    example_job(&job);
+    expect_sample("samples/walk.job");
+    expect_three_ends();
+    expect_street();
+    expect_counting();
     expect_street_rules();
+}
+
+/* ---- Lines ---- */
+
+static const char *const job_names[] = {
+    "walk",
+    "fails_1_not_legal",
+    "fails_2_no_branch",
+    "fails_3_circles",
+    "fails_4_goal_false",
+    "refused_01_file_size",
+    "refused_02_numbers",
+    "refused_03_part_place",
+    "refused_04_part_length",
+    "refused_05_marks",
+    "refused_06_cells",
+    "refused_07_end_cells",
+    "refused_08_starts",
+    "refused_09_goal",
+    "refused_10_actions",
+    "refused_11_targets",
+    "bench_g",
+    "three_ends",
+    "three_ends_no_fuse_box",
+    "street",
+    "street_left_dark",
+    "fails_from_3585_lamps",
+};
+
+/* The line that the program prints, and how long it is: with room for a word, five numbers and the kind of each lamp. */
+static char text[100 + 4 * NESSFLURRY_LINE_SIZE];
+static size_t text_size;
+
+static void put_word(const char *word) { text_size = (size_t)sprintf(text, "%s", word); }
+static void put_number(uint32_t number) { text_size += (size_t)sprintf(text + text_size, " %u", (unsigned)number); }
+
+static void put_failure(uint64_t answer)
+{
+    const uint16_t lamps = nessflurry_lamps_of(answer);
+    put_word("fails");
+    put_number(nessflurry_code_of(answer));
+    put_number(nessflurry_start_of(answer));
+    put_number(lamps);
+    for (unsigned lamp = 0; lamp < lamps; lamp++)
+        put_number(lent.line[lamp]);
+    put_number(nessflurry_end_of(answer));
+}
+
+static void put_answer(uint64_t answer)
+{
+    if (nessflurry_code_of(answer) == NESSFLURRY_REFUSED) {
+        put_word("refused");
+        put_number(nessflurry_refusal_of(answer));
+    } else if (nessflurry_code_of(answer) == NESSFLURRY_ACCEPTED) {
+        put_word("accepted");
+        put_number(nessflurry_pairs_of(answer));
+    } else {
+        put_failure(answer);
+    }
+    text[text_size++] = '\n';
+}
+
+static void expect_line(const char *name)
+{
+    char job_name[64], line_name[64];
+    snprintf(job_name, sizeof job_name, "samples/%s.job", name);
+    snprintf(line_name, sizeof line_name, "samples/%s.line", name);
+    read_sample(job_name);
+    file = sample;
+    put_answer(check_with((struct sizes){NESSFLURRY_LINE_SIZE, NESSFLURRY_LIST_SIZE, NESSFLURRY_WORDS_SIZE}));
+    expect_bytes(line_name, text, text_size);
+}
+
+void sample_cases(void)
+{
+    known_samples();
+    for (size_t i = 0; i < sizeof job_names / sizeof *job_names; i++)
+        expect_line(job_names[i]);
 }
