@@ -31,7 +31,7 @@ static enum status print_answer(const char *name, uint64_t answer)
         printf("%s: accepted %u (pairs reached; the plan is right on every line)\n", name, nessflurry_pairs_of(answer));
         return GOOD;
     case NESSFLURRY_NONE_UP_TO:
-        printf("%s: none up to %d lamp%s (right on each of these lines; a longer one may fail)\n", name, lamps, plural(lamps));
+        printf("%s: none up to %d lamp%s (right on each of these lines; longer ones are not looked at)\n", name, lamps, plural(lamps));
         return GOOD;
     case NESSFLURRY_REFUSED: return print_refusal(name, answer);
     default: print_failure(name, answer); return NOT_GOOD;

@@ -5,7 +5,7 @@ state 1, 1 lamp left: action 1, result 0
 state 0, 0 lamps left: action 0, result 0
 state 2, 0 lamps left: ended'
 after_end='refused 17 (the plan is at its end already)'
-no_branch='refused 18 (the plan has no branch for this result here)'
+no_branch='refused 18 (there is no such result, or the plan has no branch for it here)'
 
 # Results on a line each, on one line, with blanks and empty lines around them, and without a newline at the end.
 expect 0 "$one_lamp" '' step walk.job 1 << end
@@ -55,7 +55,7 @@ state 2, 0 lamps left: ended" '' step walk.job 1 << end
 end
 expect 1 'state 0, 0 lamps left: action 0, result 1
 state 1, 0 lamps left: action 1, result 0
-walk.job: refused 19 (moving on with no lamp left)
+walk.job: refused 19 (the action moves on, but no lamp is left)
 state 1, 0 lamps left: action 1, result none' '' step walk.job 0 << end
 1 0
 end

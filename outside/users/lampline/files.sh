@@ -47,7 +47,7 @@ cp walk.job 'two words.job'
 mkdir folder
 
 accepted='accepted 1 (pairs reached; the plan is right on every line)'
-right='right on each of these lines; a longer one may fail'
+right='right on each of these lines; longer ones are not looked at'
 
 # The refusals of a job file. One that is too long is not handed over, so 1 is given to those that are too short.
 refused_1='refused 1 (fewer than 28 or more than 65,535 bytes)'

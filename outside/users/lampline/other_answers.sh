@@ -63,7 +63,7 @@ bytes 0 2 > no_result.log
 awk 'BEGIN { for (i = 0; i < 32767; i++) printf "%s", "p1" }' | tr p1 '\000\001' > longest.log
 { cat longest.log && bytes 0; } > one_too_long.log
 { cat longest.log && bytes 0 1; } > two_too_long.log
-no_line_gives='no start and line give the log up to it'
+no_line_gives='no start and line give the log up to and with it'
 no_entry='refused 21 (an action or a result that the job does not have)'
 
 expect 0 'empty.log: possible (some start and line give its 0 entries)' '' replay bench_g.job empty.log
