@@ -13,7 +13,7 @@ any-not-bit-requires : tie.Need-any-not-bit-requires
 any-not-bit-requires c κs = search needs
 
 returns : tie.Need-returns
-returns c = cc
+returns c = rw (c .any-not-bit .ensures, c .before .goal-count .ensures)
 
 pub goal-wrong-spec : {M : Type 1} → statement M
 goal-wrong-spec =

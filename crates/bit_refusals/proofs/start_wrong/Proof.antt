@@ -16,7 +16,7 @@ any-set-requires : tie.Need-any-set-requires
 any-set-requires c κs = search needs
 
 returns : tie.Need-returns
-returns c = cc
+returns c = rw (c .any-set .ensures, c .before .any-not-bit .ensures)
 
 pub start-wrong-spec : {M : Type 1} → statement M
 start-wrong-spec =

@@ -42,7 +42,20 @@ has-other-length-requires-5 c κs = search needs
 
 returns : tie.Need-returns
 unfolding lengthWrong
-returns c = cc
+returns c =
+    let g = c .before .before in
+    let s = g .before .before in
+    let k = s .before .before in
+    rw (
+      c .has-other-length5 .ensures,
+      c .before .plan-length .ensures,
+      g .has-other-length4 .ensures,
+      g .before .goal-count .ensures,
+      s .has-other-length3 .ensures,
+      k .has-other-length2 .ensures,
+      k .before .cell-count .ensures,
+      k .before .before .has-other-length .ensures,
+    )
 
 pub length-wrong-spec : {M : Type 1} → statement M
 length-wrong-spec =

@@ -24,7 +24,16 @@ is-outside-requires-3 c κs = search needs
 
 returns : tie.Need-returns
 unfolding numberWrong
-returns c = cc
+returns c =
+    let o = c .before .before in
+    let r = o .before .before in
+    rw (
+      c .is-outside3 .ensures,
+      o .is-outside2 .ensures,
+      o .before .is-outside .ensures,
+      r .ranges-wrong .ensures,
+      r .before .sizes-of .ensures,
+    )
 
 pub number-wrong-spec : {M : Type 1} → statement M
 number-wrong-spec =

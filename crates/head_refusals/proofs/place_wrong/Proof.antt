@@ -33,7 +33,21 @@ is-misplaced-requires-5 c κs = search needs
 
 returns : tie.Need-returns
 unfolding placeWrong
-returns c = cc
+returns c =
+    let g = c .before .before in
+    let s = g .before .before in
+    let k = s .before .before in
+    rw (
+      c .is-misplaced5 .ensures,
+      c .before .end-of4 .ensures,
+      g .is-misplaced4 .ensures,
+      g .before .end-of3 .ensures,
+      s .is-misplaced3 .ensures,
+      s .before .end-of2 .ensures,
+      k .is-misplaced2 .ensures,
+      k .before .end-of .ensures,
+      k .before .before .is-misplaced .ensures,
+    )
 
 pub place-wrong-spec : {M : Type 1} → statement M
 place-wrong-spec =

@@ -21,7 +21,16 @@ width-requires c κs = search needs
 
 returns : tie.Need-returns
 unfolding rangesWrong
-returns c = cc
+returns c =
+    let o = c .before .before in
+    let k = o .before .before in
+    rw (
+      c .width .ensures,
+      o .is-outside4 .ensures,
+      o .before .is-outside3 .ensures,
+      k .is-outside2 .ensures,
+      k .before .is-outside .ensures,
+    )
 
 pub ranges-wrong-spec : {M : Type 1} → statement M
 ranges-wrong-spec =

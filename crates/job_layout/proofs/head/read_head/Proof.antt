@@ -40,7 +40,17 @@ read-part-requires-5 : tie.Need-read-part-requires-5
 read-part-requires-5 c κs = search needs
 
 returns : tie.Need-returns
-returns c = cc
+returns c =
+    let g = c .before in
+    let s = g .before in
+    let k = s .before in
+    rw (
+      c .read-part5 .ensures,
+      g .read-part4 .ensures,
+      s .read-part3 .ensures,
+      k .read-part2 .ensures,
+      k .before .read-part .ensures,
+    )
 
 pub read-head-spec : {M : Type 1} → statement M
 read-head-spec =

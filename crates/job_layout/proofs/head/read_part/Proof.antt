@@ -13,7 +13,7 @@ read-word-requires-2 : tie.Need-read-word-requires-2
 read-word-requires-2 c κs = search needs
 
 returns : tie.Need-returns
-returns c = cc
+returns c = rw (c .read-word2 .ensures, c .before .read-word .ensures)
 
 pub read-part-spec : {M : Type 1} → statement M
 read-part-spec = tie.close (tie.spec read-word-requires add-read-word read-word-requires-2 returns)

@@ -28,7 +28,7 @@ mul-result-2 c =
     omega (arith, product-le 65025 65535 (j .actions * j .worlds) (c .column-count .result) (omega arith) (omega arith))
 
 returns : tie.Need-returns
-returns c = cc
+returns c = rw (c .column-count .ensures)
 
 pub cell-count-spec : {M : Type 1} → statement M
 cell-count-spec =

@@ -20,7 +20,7 @@ mul-result c =
     omega (arith, product-le 255 65535 (j .worlds) (c .column-count .result) (omega arith) (omega arith))
 
 returns : tie.Need-returns
-returns c = cc
+returns c = rw (c .column-count .ensures)
 
 pub goal-count-spec : {M : Type 1} → statement M
 goal-count-spec =
