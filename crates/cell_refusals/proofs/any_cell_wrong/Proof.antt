@@ -36,7 +36,7 @@ is-cell-wrong-requires : tie.Need-is-cell-wrong-requires Inv-loop μ-loop
 is-cell-wrong-requires c κs = search needs
 
 returns : tie.Need-returns Inv-loop μ-loop
-returns c = scan-finds (search) (omega arith) (sym (c .before .is-cell-wrong .ensures) ∙ c .if1 .taken)
+returns c = scan-finds (c .before .before .before .before .before .loop .inv) (omega arith) (sym (c .before .is-cell-wrong .ensures) ∙ c .if1 .taken)
 
 add-i : tie.Need-add-i Inv-loop μ-loop
 add-i c = search needs
@@ -45,10 +45,12 @@ loop-less : tie.Need-loop-less Inv-loop μ-loop
 loop-less c = search needs
 
 loop-again : tie.Need-loop-again Inv-loop μ-loop
-loop-again c = none-yet-more (search) (omega arith) (cc)
+loop-again c =
+    let w = c .before in
+    none-yet-more (w .before .before .before .before .loop .inv) (omega arith) (sym (w .is-cell-wrong .ensures) ∙ c .if1 .left)
 
 returns-2 : tie.Need-returns-2 Inv-loop μ-loop
-returns-2 c = search scan-ends
+returns-2 c = scan-ends (c .before .loop .inv) (omega arith)
 
 pub any-cell-wrong-spec : {M : Type 1} → statement M
 any-cell-wrong-spec =

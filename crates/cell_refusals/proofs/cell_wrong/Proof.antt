@@ -16,7 +16,7 @@ any-cell-wrong-requires : tie.Need-any-cell-wrong-requires
 any-cell-wrong-requires c κs = search needs
 
 returns : tie.Need-returns
-returns c = cc
+returns c = rw (c .any-cell-wrong .ensures, c .before .cell-count .ensures)
 
 pub cell-wrong-spec : {M : Type 1} → statement M
 cell-wrong-spec =

@@ -21,7 +21,7 @@ moves-on-at-end-requires : tie.Need-moves-on-at-end-requires Inv-loop μ-loop
 moves-on-at-end-requires c κs = search needs
 
 returns : tie.Need-returns Inv-loop μ-loop
-returns c = scan-finds (search) (omega arith) (sym (c .before .moves-on-at-end .ensures) ∙ c .if1 .taken)
+returns c = scan-finds (c .before .before .before .loop .inv) (omega arith) (sym (c .before .moves-on-at-end .ensures) ∙ c .if1 .taken)
 
 add-a : tie.Need-add-a Inv-loop μ-loop
 add-a c = search needs
@@ -30,10 +30,10 @@ loop-less : tie.Need-loop-less Inv-loop μ-loop
 loop-less c = search needs
 
 loop-again : tie.Need-loop-again Inv-loop μ-loop
-loop-again c = none-yet-more (search) (omega arith) (cc)
+loop-again c = none-yet-more (c .before .before .before .loop .inv) (omega arith) (sym (c .before .moves-on-at-end .ensures) ∙ c .if1 .left)
 
 returns-2 : tie.Need-returns-2 Inv-loop μ-loop
-returns-2 c = search scan-ends
+returns-2 c = scan-ends (c .before .loop .inv) (omega arith)
 
 pub end-wrong-spec : {M : Type 1} → statement M
 end-wrong-spec =

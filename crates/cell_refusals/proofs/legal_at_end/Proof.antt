@@ -30,8 +30,8 @@ shared-slice-read-if1 c = search (result-in, end-column-in)
 
 returns : tie.Need-returns Inv-loop μ-loop
 returns c =
-    let at-loop = c .before .before .before .before in
-    scan-finds (at-loop .loop .inv) (omega arith) (cc (ne-eqb _ _ (c .if1 .taken)))
+    let p = c .before .before in
+    scan-finds (p .before .before .loop .inv) (omega arith) (rw (← (p .next-place .ensures), ne-eqb _ _ (c .if1 .taken)))
 
 add-w : tie.Need-add-w Inv-loop μ-loop
 add-w c = search needs
@@ -40,10 +40,12 @@ loop-less : tie.Need-loop-less Inv-loop μ-loop
 loop-less c = search needs
 
 loop-again : tie.Need-loop-again Inv-loop μ-loop
-loop-again c = none-yet-more (search) (omega arith) (cc (eq-eqb _ _ (c .if1 .left)))
+loop-again c =
+    let p = c .before .before in
+    none-yet-more (p .before .before .loop .inv) (omega arith) (rw (← (p .next-place .ensures), eq-eqb _ _ (c .if1 .left)))
 
 returns-2 : tie.Need-returns-2 Inv-loop μ-loop
-returns-2 c = search scan-ends
+returns-2 c = scan-ends (c .before .loop .inv) (omega arith)
 
 pub legal-at-end-spec : {M : Type 1} → statement M
 legal-at-end-spec =

@@ -29,7 +29,7 @@ legal-at-end-requires c κs = search needs
 
 returns : tie.Need-returns Inv-loop μ-loop
 unfolding endKinds
-returns c = scan-finds (search) (omega arith) (sym (c .before .legal-at-end .ensures) ∙ c .if1 .taken)
+returns c = scan-finds (c .before .before .before .loop .inv .1) (omega arith) (sym (c .before .legal-at-end .ensures) ∙ c .if1 .taken)
 
 add-end : tie.Need-add-end Inv-loop μ-loop
 add-end c = search needs
@@ -39,11 +39,13 @@ loop-less c = search needs
 
 loop-again : tie.Need-loop-again Inv-loop μ-loop
 unfolding endKinds
-loop-again c = (search needs, none-yet-more (search) (omega arith) (cc))
+loop-again c =
+    let i = c .before .before .before .loop .inv in
+    (i .0, none-yet-more (i .1) (omega arith) (sym (c .before .legal-at-end .ensures) ∙ c .if1 .left))
 
 returns-2 : tie.Need-returns-2 Inv-loop μ-loop
 unfolding endKinds
-returns-2 c = search scan-ends
+returns-2 c = scan-ends (c .before .loop .inv .1) (omega arith)
 
 pub legal-at-ends-spec : {M : Type 1} → statement M
 legal-at-ends-spec =

@@ -25,7 +25,9 @@ shared-slice-read-if1 : tie.Need-shared-slice-read-if1 Inv-loop μ-loop
 shared-slice-read-if1 c = search action-in
 
 returns : tie.Need-returns Inv-loop μ-loop
-returns c = search (scan-finds, le-leb, ← (c .before .before .action-place .ensures))
+returns c =
+    let p = c .before .before in
+    scan-finds (p .before .before .loop .inv) (omega arith) (rw (← (p .action-place .ensures), le-leb _ _ (c .if1 .taken)))
 
 add-q : tie.Need-add-q Inv-loop μ-loop
 add-q c = search needs
@@ -34,10 +36,12 @@ loop-less : tie.Need-loop-less Inv-loop μ-loop
 loop-less c = search needs
 
 loop-again : tie.Need-loop-again Inv-loop μ-loop
-loop-again c = none-yet-more (search) (omega arith) (cc (lt-leb _ _ (c .if1 .left)))
+loop-again c =
+    let p = c .before .before in
+    none-yet-more (p .before .before .loop .inv) (omega arith) (rw (← (p .action-place .ensures), lt-leb _ _ (c .if1 .left)))
 
 returns-2 : tie.Need-returns-2 Inv-loop μ-loop
-returns-2 c = search scan-ends
+returns-2 c = scan-ends (c .before .loop .inv) (omega arith)
 
 pub action-wrong-spec : {M : Type 1} → statement M
 action-wrong-spec =

@@ -43,7 +43,9 @@ loop-less : tie.Need-loop-less Inv-loop μ-loop
 loop-less c = search needs
 
 loop-again : tie.Need-loop-again Inv-loop μ-loop
-loop-again c = none-yet-more (search) (omega arith) (cc)
+loop-again c =
+    let w = c .before in
+    none-yet-more (w .before .before .before .before .loop .inv) (omega arith) (sym (w .is-unwanted .ensures) ∙ c .if1 .left)
 
 returns-2 : tie.Need-returns-2 Inv-loop μ-loop
 returns-2 c =
