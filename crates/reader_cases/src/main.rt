@@ -1,5 +1,6 @@
 // The reader on the bench cases of 01 and on a file for each refusal: prints the answer for each.
 ghost use mathlib.Core.Path.{_≡_};
+ghost use Prim.Native.Nat.{_<_};
 ghost use lib.ListN.{length};
 use bench_line::bench;
 use bench_line::bench_with;
@@ -65,6 +66,22 @@ fn show_first(name: &[u8], size: usize, file: &[u8]) {
     }
 }
 
+// Reads bench line G with one byte replaced.
+fn show_with(name: &[u8], place: usize, byte: u8)
+    requires { ⌜ place < 128 ⌝ }
+{
+    show(name, &bench_with(place, byte));
+}
+
+// Reads bench line G with two bytes replaced.
+fn show_with_two(name: &[u8], place: usize, byte: u8, second: usize, other: u8)
+    requires { ⌜ (place < 128) × (second < 128) ⌝ }
+{
+    let mut file = bench_with(place, byte);
+    file[second] = other;
+    show(name, &file);
+}
+
 // Bench line G, followed by unused bytes up to the greatest size.
 fn largest() -> [u8; 65535]
     ensures { λ r. ⌜ 65535 ≡ length r ⌝ }
@@ -104,77 +121,63 @@ fn sizes() {
 
 // Wrong numbers in bytes 0 to 7.
 fn numbers() {
-    show(b"C 16", &bench_with(2, 16));
-    show(b"A 0", &bench_with(0, 0));
-    show(b"W 65", &bench_with(1, 65));
-    show(b"R 9", &bench_with(3, 9));
-    show(b"S 65", &bench_with(4, 65));
-    show(b"first state above S", &bench_with(5, 5));
-    show(b"15 end kinds, C 2", &bench_with(6, 14));
-    show(b"256 end kinds", &bench_with(6, 255));
-    show(b"byte 7", &bench_with(7, 1));
+    show_with(b"C 16", 2, 16);
+    show_with(b"A 0", 0, 0);
+    show_with(b"W 65", 1, 65);
+    show_with(b"R 9", 3, 9);
+    show_with(b"S 65", 4, 65);
+    show_with(b"first state above S", 5, 5);
+    show_with(b"15 end kinds, C 2", 6, 14);
+    show_with(b"256 end kinds", 6, 255);
+    show_with(b"byte 7", 7, 1);
 }
 
 // Parts that are out of place or have a wrong length.
 fn part_places() {
-    show(b"second offset 31", &bench_with(12, 31));
-    show(b"first part at 27", &bench_with(8, 27));
-    show(b"plan at 0", &bench_with(24, 0));
-    let mut file = bench_with(24, 250);
-    file[25] = 255;
-    show(b"plan whose end wraps in 16 bits", &file);
-    let mut file = bench_with(10, 3);
-    file[24] = 117;
-    show(b"marks of 3 bytes, plan past the file", &file);
-    show(b"marks of 3 bytes", &bench_with(10, 3));
-    show(b"goal of 8 bytes", &bench_with(22, 8));
-    show(b"two end kinds, lengths for one", &bench_with(6, 1));
-    show(b"14 end kinds, C 2, lengths for one", &bench_with(6, 13));
+    show_with(b"second offset 31", 12, 31);
+    show_with(b"first part at 27", 8, 27);
+    show_with(b"plan at 0", 24, 0);
+    show_with_two(b"plan whose end wraps in 16 bits", 24, 250, 25, 255);
+    show_with_two(b"marks of 3 bytes, plan past the file", 10, 3, 24, 117);
+    show_with(b"marks of 3 bytes", 10, 3);
+    show_with(b"goal of 8 bytes", 22, 8);
+    show_with(b"two end kinds, lengths for one", 6, 1);
+    show_with(b"14 end kinds, C 2, lengths for one", 6, 13);
     show(b"one end kind, lengths for three", &three_ends_with(6, 0));
 }
 
 // Bytes of marks, cells, starts and goal that are refused.
 fn tables() {
-    show(b"mark 2", &bench_with(28, 2));
-    show(b"next W", &bench_with(32, 3));
-    show(b"result R", &bench_with(33, 2));
-    show(b"result 254", &bench_with(33, 254));
-    show(b"255 with next 1", &bench_with(50, 1));
-    show(b"moves on, legal at the end", &bench_with(28, 1));
+    show_with(b"mark 2", 28, 2);
+    show_with(b"next W", 32, 3);
+    show_with(b"result R", 33, 2);
+    show_with(b"result 254", 33, 254);
+    show_with(b"255 with next 1", 50, 1);
+    show_with(b"moves on, legal at the end", 28, 1);
     show(
         b"the same at the second of three ends",
         &three_ends_with(65, 0),
     );
     show(b"the same at the third", &three_ends_with(87, 0));
-    show(b"start 2", &bench_with(105, 2));
-    show(b"no start", &bench_with(104, 0));
-    show(b"goal 2", &bench_with(115, 2));
+    show_with(b"start 2", 105, 2);
+    show_with(b"no start", 104, 0);
+    show_with(b"goal 2", 115, 2);
 }
 
 // Actions and targets that are refused.
 fn plans() {
-    show(b"action A", &bench_with(125, 4));
-    show(b"target S + 1", &bench_with(117, 5));
-    show(b"target 254", &bench_with(117, 254));
+    show_with(b"action A", 125, 4);
+    show_with(b"target S + 1", 117, 5);
+    show_with(b"target 254", 117, 254);
 }
 
 // Files that several numbers apply to: the answer is the lowest.
 fn several() {
-    let mut file = bench_with(2, 16);
-    file[12] = 31;
-    show(b"2 and 3", &file);
-    let mut file = bench_with(28, 2);
-    file[107] = 2;
-    show(b"5 and 9", &file);
-    let mut file = bench_with(28, 1);
-    file[103] = 9;
-    show(b"7, and 6 in the last cell", &file);
-    let mut file = bench_with(104, 0);
-    file[117] = 5;
-    show(b"8 and 11", &file);
-    let mut file = bench_with(117, 5);
-    file[125] = 4;
-    show(b"11 in the first row, 10 in the last", &file);
+    show_with_two(b"2 and 3", 2, 16, 12, 31);
+    show_with_two(b"5 and 9", 28, 2, 107, 2);
+    show_with_two(b"7, and 6 in the last cell", 28, 1, 103, 9);
+    show_with_two(b"8 and 11", 104, 0, 117, 5);
+    show_with_two(b"11 in the first row, 10 in the last", 117, 5, 125, 4);
 }
 
 // An empty plan part: at the end of the file, past it, and before the end of the goal part.
