@@ -11,7 +11,7 @@ use job_file::refusal_number;
 use job_layout::places::column_count;
 use lamp_line::FailureKind;
 use lamp_line::WorldState;
-use plan_search::Found;
+use line_naming::Found;
 use sized_search::find_large;
 use sized_search::find_middle;
 use sized_search::find_small;

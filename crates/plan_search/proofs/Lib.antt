@@ -1,4 +1,2 @@
-pub mod GroupEnds
-pub mod Naming
 pub mod SearchLoops
 pub mod Sweeps

@@ -3,24 +3,19 @@
 // for each kind of lamp, the group's line is then tried with one lamp more. The search stops at a line that fails, when no group is left,
 // or before it would try a line with more lamps than it was asked for (02, (b)). Of the failures of a line, the one with the lowest kind of
 // end is named, and of those with the same end the one of the lowest start.
-ghost use mathlib.Core.Path.{_≡_};
-ghost use Prim.Native.Nat.{ℕ, _+_, _*_, _≤_, _<_};
-ghost use lib.ListN.{length, take};
+ghost use Prim.Native.Nat.{_+_, _*_, _≤_};
+ghost use lib.ListN.{length};
 ghost use Rattle.job_layout.specs.JobTables.{tablesBy};
 ghost use Rattle.run_laws.specs.inner.Pairs.{pairs};
-ghost use Rattle.search_laws.specs.inner.Entries.{groupEnd};
-ghost use Rattle.working_list.specs.inner.Placing.{entries};
 ghost use Rattle.line_trial.specs.inner.Trials.{Ready};
-ghost use Rattle.plan_search.specs.inner.Searching.{Searched, Room, Finds};
+ghost use Rattle.plan_search.specs.inner.Searching.{Searched};
 use job_layout::Job;
 use lamp_line::FailureKind;
-use lamp_line::WorldState;
 use member_trial::MemberEnd;
 use member_trial::try_member;
 use pair_bits::clear_bits;
 use pair_bits::sum_bits;
-use working_list::line::write_line;
-use working_list::list::unpack;
+use working_list::list::group_end;
 
 // Where the search ends: no line fails, and this many pairs are in the list; or a line fails. Then it answers the failure kind, the kind of
 // the line's end, the number of pairs in the list, the member from which the line was tried, the kind of its last lamp, and its number of
@@ -30,35 +25,15 @@ pub enum SearchEnd {
     AtLine(FailureKind, u8, usize, usize, u8, usize),
 }
 
-// What the search finds: no failure, and this number of pairs; or the failure kind with the start, the number of lamps and the kind of
-// end of its line.
-pub enum Found {
-    NoneFails(u32),
-    Fails(FailureKind, WorldState, u16, u8),
-}
-
-// Where the group ends that begins with the pair at `from`: at the next pair that opens a group, or at the end of the list.
-fn group_end(list: &[u32], from: usize, count: usize) -> usize
-    requires { ⌜ (from < count) × (count ≤ length (now list)) × (count ≤ 4160) ⌝ }
-    ensures { λ r. ⌜ ((worlds : ℕ) → r ≡ groupEnd (entries worlds (take count (now (list .entry)))) from) ⌝ }
-{
-    let mut to = from + 1;
-    while to < count {
-        let pair = unpack(list[to]);
-        if pair.opens {
-            return to;
-        }
-        to += 1;
-    }
-    to
-}
-
 // Tries group after group with all its kinds of lamps: the starts with the empty line, which is kind 0, and then the pairs of the list. A
 // line is tried from all members of the group before the next. Where it fails from one, the others are tried for a failure with a lower
 // kind of end, unless it is the lowest. The group after this one begins with the pair at `next`. The groups come in layers: the lines that
 // are tried for this group, and for those after it up to `layer`, have `lamps` lamps. The pairs found meanwhile are the next layer, whose
 // lines have one lamp more; it is not begun if that is more than `longest`.
-fn search_groups(
+//
+// The function is for the crates above and not for users: it asks for the job that the reader answered for this file, for a memory of fates
+// in its tables, and for buffers with room.
+pub fn search_groups(
     file: &[u8],
     job: Job,
     longest: usize,
@@ -145,31 +120,4 @@ fn search_groups(
         last = job.kinds;
     };
     halted
-}
-
-// The search of both checks, among the lines of up to `longest` lamps: the first failure, whose line is written at the front of the line
-// buffer; or, if none of these lines fails, the number of pairs that they reach. Where `longest` is at least the number of all pairs, it
-// is no bound, and these are all lines. The function is for the crates above and not for users: it asks for the job that the reader
-// answered for this file, for a memory of fates in its tables, and for buffers with room.
-pub fn search(
-    file: &[u8],
-    job: Job,
-    longest: usize,
-    memory: &mut [u16],
-    line: &mut [u8],
-    list: &mut [u32],
-    words: &mut [u64],
-) -> Found
-    requires { ⌜ Ready (now file) job (now memory)
-        × Room (tablesBy (now file) job) (length (now line)) (length (now list)) (length (now words)) ⌝ }
-    ensures { λ r. ⌜ Finds (tablesBy (now (file .entry)) job) longest r (now (line .entry)) (now (line .exit)) ⌝ }
-{
-    let halted = search_groups(file, job, longest, memory, list, words);
-    match halted {
-        SearchEnd::NoneFails(count) => Found::NoneFails(count),
-        SearchEnd::AtLine(failure, end, count, member, kind, lamps) => {
-            let start = write_line(&list[..count], line, member, kind, lamps);
-            Found::Fails(failure, start, lamps as u16, end)
-        }
-    }
 }

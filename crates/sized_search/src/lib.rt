@@ -8,10 +8,10 @@ ghost use lib.ListN.{length};
 ghost use Rattle.job_layout.specs.JobTables.{tablesBy};
 ghost use Rattle.job_file.specs.Reading.{Opened};
 ghost use Rattle.lamp_fates.specs.inner.Memory.{memorySize};
-ghost use Rattle.plan_search.specs.inner.Searching.{Room, Finds};
+ghost use Rattle.line_naming.specs.inner.Finding.{Room, Finds};
 use job_layout::Job;
-use plan_search::Found;
-use plan_search::search;
+use line_naming::Found;
+use line_naming::search;
 
 // The search with a memory for the smallest jobs.
 pub fn find_small(

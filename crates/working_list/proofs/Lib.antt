@@ -1,3 +1,4 @@
 pub mod EntryLaws
+pub mod GroupEnds
 pub mod LineLoops
 pub mod ListLaws

@@ -1,6 +1,9 @@
-// The words of the working list: a placed pair as one 32-bit number, and back.
+// The words of the working list: a placed pair as one 32-bit number, and back; and where a group of them ends.
 ghost use mathlib.Core.Path.{_≡_};
-ghost use Rattle.working_list.specs.inner.Placing.{packed, unpacked, Packable};
+ghost use Prim.Native.Nat.{ℕ, _≤_, _<_};
+ghost use lib.ListN.{length, take};
+ghost use Rattle.search_laws.specs.inner.Entries.{groupEnd};
+ghost use Rattle.working_list.specs.inner.Placing.{packed, unpacked, Packable, entries};
 use crate::Placed;
 use lamp_line::ProgramState;
 use lamp_line::WorldState;
@@ -30,4 +33,20 @@ pub fn unpack(word: u32) -> Placed
         kind: (word / 67108864 % 16) as u8,
         opens: word / 1073741824 == 1,
     }
+}
+
+// Where the group ends that begins with the pair at `from`: at the next pair that opens a group, or at the end of the list.
+pub fn group_end(list: &[u32], from: usize, count: usize) -> usize
+    requires { ⌜ (from < count) × (count ≤ length (now list)) × (count ≤ 4160) ⌝ }
+    ensures { λ r. ⌜ ((worlds : ℕ) → r ≡ groupEnd (entries worlds (take count (now (list .entry)))) from) ⌝ }
+{
+    let mut to = from + 1;
+    while to < count {
+        let pair = unpack(list[to]);
+        if pair.opens {
+            return to;
+        }
+        to += 1;
+    }
+    to
 }

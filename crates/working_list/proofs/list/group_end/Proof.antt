@@ -2,9 +2,9 @@
 use borrow.Author.Needs.{needs}
 use native.Mathlib.Omega.{arith}
 use Prim.Native.Nat.{_-_}
-use Rattle.plan_search.proofs.GroupEnds.{GroupSoFar, so-far-begins, ends-here, so-far-on, ends-last}
-use Rattle.plan_search.proofs.group_end.Statement.{statement}
-use Rattle.plan_search.proofs.group_end.Tie as tie
+use Rattle.working_list.proofs.GroupEnds.{GroupSoFar, so-far-begins, ends-here, so-far-on, ends-last}
+use Rattle.working_list.proofs.list.group_end.Statement.{statement}
+use Rattle.working_list.proofs.list.group_end.Tie as tie
 
 abbrev Inv-loop : tie.InvT-loop
 Inv-loop list from count to₀ to = GroupSoFar list count from to
