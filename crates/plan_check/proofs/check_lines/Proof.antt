@@ -54,6 +54,16 @@ enough e =
     let f = at-first (e .before) in
     record { opened = opened (at-job (f .before)); line-enough = f .if1 .left; list-enough = e .before .if2 .left; words-enough = e .if3 .left }
 
+-- From the outcome to where the search answered.
+abbrev at-small : tie.After-outcome-of → tie.After-find-small
+at-small o = o .before .before .before .before .before .before .before
+
+abbrev at-middle : tie.After-outcome-of2 → tie.After-find-middle
+at-middle o = o .before .before .before .before .before .before .before
+
+abbrev at-large : tie.After-outcome-of3 → tie.After-find-large
+at-large o = o .before .before .before .before .before .before .before
+
 -- ---- the answers
 
 read-job-requires : tie.Need-read-job-requires
@@ -137,17 +147,17 @@ outcome-of-requires : tie.Need-outcome-of-requires
 outcome-of-requires c κs = search needs
 
 same-length : tie.Need-same-length
-same-length c = search needs
+same-length c = at-small c .find-small .kept .1 .1 .1 .0
 
 same-length-2 : tie.Need-same-length-2
-same-length-2 c = search needs
+same-length-2 c = at-small c .find-small .kept .1 .1 .1 .1 .0
 
 same-length-3 : tie.Need-same-length-3
-same-length-3 c = search needs
+same-length-3 c = at-small c .find-small .kept .1 .1 .1 .1 .1 .0
 
 returns-5 : tie.Need-returns-5
 returns-5 c =
-    let f = c .before .before .before .before .before .before .before in
+    let f = at-small c in
     let n = f .before .before .before .before .before in
     found-checked (enough (n .before)) _ (f .find-small .ensures) (c .outcome-of .ensures)
 
@@ -162,17 +172,17 @@ outcome-of-requires-2 : tie.Need-outcome-of-requires-2
 outcome-of-requires-2 c κs = search needs
 
 same-length-4 : tie.Need-same-length-4
-same-length-4 c = search needs
+same-length-4 c = at-middle c .find-middle .kept .1 .1 .1 .0
 
 same-length-5 : tie.Need-same-length-5
-same-length-5 c = search needs
+same-length-5 c = at-middle c .find-middle .kept .1 .1 .1 .1 .0
 
 same-length-6 : tie.Need-same-length-6
-same-length-6 c = search needs
+same-length-6 c = at-middle c .find-middle .kept .1 .1 .1 .1 .1 .0
 
 returns-6 : tie.Need-returns-6
 returns-6 c =
-    let f = c .before .before .before .before .before .before .before in
+    let f = at-middle c in
     let n = f .before .before .before .before .before .before in
     found-checked (enough (n .before)) _ (f .find-middle .ensures) (c .outcome-of2 .ensures)
 
@@ -186,17 +196,17 @@ outcome-of-requires-3 : tie.Need-outcome-of-requires-3
 outcome-of-requires-3 c κs = search needs
 
 same-length-7 : tie.Need-same-length-7
-same-length-7 c = search needs
+same-length-7 c = at-large c .find-large .kept .1 .1 .1 .0
 
 same-length-8 : tie.Need-same-length-8
-same-length-8 c = search needs
+same-length-8 c = at-large c .find-large .kept .1 .1 .1 .1 .0
 
 same-length-9 : tie.Need-same-length-9
-same-length-9 c = search needs
+same-length-9 c = at-large c .find-large .kept .1 .1 .1 .1 .1 .0
 
 returns-7 : tie.Need-returns-7
 returns-7 c =
-    let f = c .before .before .before .before .before .before .before in
+    let f = at-large c in
     let n = f .before .before .before .before .before .before in
     found-checked (enough (n .before)) _ (f .find-large .ensures) (c .outcome-of3 .ensures)
 
