@@ -41,7 +41,7 @@ help:
 	@echo 'make bench           the library beside the plain implementation'
 	@echo 'make install         header, library, lampline, man page and pkg-config file (PREFIX=/usr/local, DESTDIR=)'
 	@echo 'make uninstall       removes them'
-	@echo 'make clean           removes what was made from C; proofs stay'
+	@echo 'make clean           removes what was made from C; proofs and the corpus of the fuzzer stay'
 
 # ---- What the toolchain proves and builds. One call of it at a time: they share target/. ----
 
@@ -166,4 +166,5 @@ uninstall:
 		'$(DESTDIR)$(MANDIR)/man1/lampline.1' '$(DESTDIR)$(LIBDIR)/pkgconfig/nessflurry.pc'
 
 clean:
-	rm -rf target/c target/sanitize target/fuzz target/bin/lampline target/bin/street
+	rm -rf target/c target/sanitize target/users target/samples target/fuzz/fuzz target/fuzz/outside
+	rm -f target/bin/lampline target/bin/street

@@ -40,7 +40,7 @@ static void take_arguments(int argc, char **argv)
 {
     FILE *job = argc >= 3 ? fopen(argv[1], "rb") : NULL;
     if (job == NULL) {
-        fprintf(stderr, "usage: street JOB END KIND...\n");
+        fprintf(stderr, argc >= 3 ? "street: the job cannot be read\n" : "usage: street JOB END KIND...\n");
         exit(2);
     }
     file_size = fread(file, 1, sizeof file, job);
@@ -121,8 +121,8 @@ static void walk_the_line(void)
             break;
         uint8_t action = nessflurry_action_of(next), result = perform(action);
         printf("state %d, %d lamps left: action %d, result %d\n", state, left, action, result);
-        keep(action, result);
         cabinet = not_refused("report", nessflurry_report(file, file_size, state, left, result));
+        keep(action, result); /* a result that is refused is no step */
     }
     printf("the cabinet ended in state %d with %d lamps left\n", nessflurry_state_of(cabinet), nessflurry_lamps_of(cabinet));
 }

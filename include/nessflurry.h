@@ -23,7 +23,7 @@
  * Terms. A job file holds tables, which say what each action does at each kind of lamp and of line's end, and a plan. It has A
  * actions, W world states, C lamp kinds, E end kinds, R sensed results, and S program states besides the final one. Lamp kinds are
  * numbered from 1, everything else from 0; the final program state is S. A world state stands for everything that actions can
- * change. A line is an array of lamp kinds, and an end kind. A column says where the cabinet is: columns 0 to E - 1 are the end
+ * change, but for the place on the line. A line is an array of lamp kinds, and an end kind. A column says where the cabinet is: columns 0 to E - 1 are the end
  * kinds, and a lamp of kind k is column E - 1 + k. A start is a world state that the job marks as one.
  *
  * What holds for every call:
@@ -351,7 +351,7 @@ static inline uint64_t nessflurry_action(const uint8_t *file, size_t file_size, 
 
 /*
  * Reports the result that the action had. NESSFLURRY_DONE: state_of and lamps_of are the cabinet's now. Refusals 1 to 11 and
- * 16 to 19; then state_of and lamps_of are as handed in.
+ * 16 to 19; then state_of and lamps_of are as handed in: sense again, or stop, since the same result will be refused again.
  */
 NESSFLURRY_NODISCARD
 static inline uint64_t nessflurry_report(const uint8_t *file, size_t file_size, uint8_t state, uint16_t lamps,

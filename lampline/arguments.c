@@ -60,7 +60,10 @@ static bool take_option(struct arguments *arguments, char **words, int count, in
         return take_number("the limit", value, UINT32_MAX, &arguments->limit);
     if (options & TAKES_END && (value = value_of("--end", words, count, at)) != NULL)
         return take_byte("the end kind", value, &arguments->end);
-    complain("'%s' is no option here, or its number is missing; lampline --help tells more", option);
+    if ((options & TAKES_LIMIT && strcmp(option, "--limit") == 0) || (options & TAKES_END && strcmp(option, "--end") == 0))
+        complain("'%s' needs a number after it", option);
+    else
+        complain("'%s' is no option here; lampline --help tells more", option);
     return false;
 }
 

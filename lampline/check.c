@@ -28,7 +28,8 @@ static enum status print_answer(const char *name, uint64_t answer)
     const uint16_t lamps = nessflurry_lamps_of(answer);
     switch (nessflurry_code_of(answer)) {
     case NESSFLURRY_ACCEPTED:
-        printf("%s: accepted %u (pairs reached; the plan is right on every line)\n", name, nessflurry_pairs_of(answer));
+        printf("%s: accepted %u (the plan is right on every line; pairs reached: %u)\n", name, nessflurry_pairs_of(answer),
+               nessflurry_pairs_of(answer));
         return GOOD;
     case NESSFLURRY_NONE_UP_TO:
         printf("%s: none up to %d lamp%s (right on each of these lines; longer ones are not looked at)\n", name, lamps, plural(lamps));

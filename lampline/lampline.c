@@ -20,7 +20,7 @@ static const struct listed {
      "is the plan right on every line? One line for each file; with --steps, where it fails, each step to the failure"},
     {"check-up-to", "[--steps] LAMPS FILE..", 2, INT_MAX, TAKES_STEPS, check_files_up_to,
      "the short check: the same for the lines of up to LAMPS lamps alone"},
-    {"run", "FILE START [--limit STEPS] [--end KIND] [--steps] [KIND..]", 2, INT_MAX, TAKES_STEPS | TAKES_LIMIT | TAKES_END,
+    {"run", "FILE START [--limit STEPS] [--end END] [--steps] [KIND..]", 2, INT_MAX, TAKES_STEPS | TAKES_LIMIT | TAKES_END,
      run_line, "the plan on the line of lamps of these kinds, from this start; the line's end is of kind 0 if no other is named"},
     {"walk", "FILE STATE WORLD COLUMN", 4, 4, 0, walk_lamp,
      "the plan at one lamp or one end of a line, until it moves on or ends"},

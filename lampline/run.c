@@ -38,7 +38,7 @@ static enum status print_run(const char *name, uint64_t answer)
 {
     if (nessflurry_code_of(answer) != NESSFLURRY_STOPPED)
         return print_ending(name, answer);
-    printf("%s: stopped %u (the limit of steps; the run goes on)\n", name, nessflurry_steps_of(answer));
+    printf("%s: stopped %u (the limit of steps; the run would go on)\n", name, nessflurry_steps_of(answer));
     return NOT_GOOD;
 }
 

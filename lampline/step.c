@@ -68,7 +68,7 @@ static enum status report(const struct file *file, uint64_t *cabinet, const char
 /* No result follows: it is well if the plan is at its end, and all of the input was read. */
 static enum status finish(bool ended, enum status status)
 {
-    puts(ended ? "" : "none");
+    puts(ended ? "" : "none: the plan has not ended");
     if (ferror(stdin)) {
         complain("standard input cannot be read");
         return NO_ANSWER;

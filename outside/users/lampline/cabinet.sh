@@ -56,15 +56,15 @@ end
 expect 1 'state 0, 0 lamps left: action 0, result 1
 state 1, 0 lamps left: action 1, result 0
 walk.job: refused 19 (the action moves on, but no lamp is left)
-state 1, 0 lamps left: action 1, result none' '' step walk.job 0 << end
+state 1, 0 lamps left: action 1, result none: the plan has not ended' '' step walk.job 0 << end
 1 0
 end
 
 # An input that ends early, and the longest line.
-expect 1 'state 0, 1 lamp left: action 0, result none' '' step walk.job 1
+expect 1 'state 0, 1 lamp left: action 0, result none: the plan has not ended' '' step walk.job 1
 expect 1 'state 0, 65535 lamps left: action 0, result 1
 state 1, 65535 lamps left: action 1, result 0
-state 0, 65534 lamps left: action 0, result none' '' step walk.job 65535 << end
+state 0, 65534 lamps left: action 0, result none: the plan has not ended' '' step walk.job 65535 << end
 1 0
 end
 
@@ -78,7 +78,7 @@ state 0, 1 lamp left: action 0, result 000000000000001
 state 1, 1 lamp left: action 1, result 000000000000...
 state 1, 1 lamp left: action 1, result averyverylon...
 state 1, 1 lamp left: action 1, result 0?
-state 1, 1 lamp left: action 1, result none' "$not_a_result 'one' is none
+state 1, 1 lamp left: action 1, result none: the plan has not ended' "$not_a_result 'one' is none
 $not_a_result '256' is none
 $not_a_result '-1' is none
 $not_a_result '000000000000...' is none
@@ -93,5 +93,5 @@ end
 expect 1 "refused_10_actions.job: $refused_10" '' step refused_10_actions.job 1
 complains 'step takes the results from standard input, so the job cannot come from there' step - 1
 complains 'missing.job: No such file or directory' step missing.job 1
-expect 2 'state 0, 1 lamp left: action 0, result none' 'standard input cannot be read' step walk.job 1 < folder
-expect 2 'state 0, 1 lamp left: action 0, result none' 'standard input cannot be read' step walk.job 1 <&-
+expect 2 'state 0, 1 lamp left: action 0, result none: the plan has not ended' 'standard input cannot be read' step walk.job 1 < folder
+expect 2 'state 0, 1 lamp left: action 0, result none: the plan has not ended' 'standard input cannot be read' step walk.job 1 <&-

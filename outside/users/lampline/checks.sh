@@ -35,7 +35,7 @@ refused='refused_01_file_size.job refused_02_numbers.job refused_03_part_place.j
     refused_11_targets.job'
 # The names are several words.
 # shellcheck disable=SC2086
-for command in check 'check-up-to 0' read; do
+for command in check 'check-up-to 0'; do
     expect 1 "refused_01_file_size.job: $refused_1
 refused_02_numbers.job: $refused_2
 refused_03_part_place.job: $refused_3

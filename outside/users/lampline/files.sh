@@ -46,7 +46,7 @@ cp walk.job ./-dash.job
 cp walk.job 'two words.job'
 mkdir folder
 
-accepted='accepted 1 (pairs reached; the plan is right on every line)'
+accepted='accepted 1 (the plan is right on every line; pairs reached: 1)'
 right='right on each of these lines; longer ones are not looked at'
 
 # The refusals of a job file. One that is too long is not handed over, so 1 is given to those that are too short.

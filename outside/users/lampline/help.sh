@@ -10,7 +10,7 @@ lampline: the operations of Nessflurry, the proved checker for plans of street l
         is the plan right on every line? One line for each file; with --steps, where it fails, each step to the failure
     lampline check-up-to [--steps] LAMPS FILE..
         the short check: the same for the lines of up to LAMPS lamps alone
-    lampline run FILE START [--limit STEPS] [--end KIND] [--steps] [KIND..]
+    lampline run FILE START [--limit STEPS] [--end END] [--steps] [KIND..]
         the plan on the line of lamps of these kinds, from this start; the line's end is of kind 0 if no other is named
     lampline walk FILE STATE WORLD COLUMN
         the plan at one lamp or one end of a line, until it moves on or ends

@@ -2,7 +2,9 @@
 
 # ---- read ----
 
-walk_read="walk.job: A 2 (actions), W 1 (world states), C 1 (lamp kinds), \
+walk_read="walk.job: read
+    47 bytes
+    A 2 (actions), W 1 (world states), C 1 (lamp kinds), \
 R 2 (results), S 2 (program states before the final one), first state 0, E 1 (end kinds)
     marks  at    28,     2 bytes
     cells  at    30,     8 bytes
@@ -10,7 +12,9 @@ R 2 (results), S 2 (program states before the final one), first state 0, E 1 (en
     goal   at    39,     2 bytes
     plan   at    41,     6 bytes
     starts marked: 0"
-three_ends_read="three_ends_fuse_set.job: A 4 (actions), W 3 (world states), C 2 (lamp kinds), \
+three_ends_read="three_ends_fuse_set.job: read
+    190 bytes
+    A 4 (actions), W 3 (world states), C 2 (lamp kinds), \
 R 4 (results), S 4 (program states before the final one), first state 0, E 3 (end kinds)
     marks  at    28,     4 bytes
     cells  at    32,   120 bytes
@@ -22,7 +26,9 @@ expect 0 "$walk_read" '' read walk.job
 expect 0 "$three_ends_read" '' read three_ends_fuse_set.job
 expect 0 "$walk_read
 $three_ends_read" '' read walk.job three_ends_fuse_set.job
-expect 0 "street_three_starts.job: A 3 (actions), W 4 (world states), C 2 (lamp kinds), \
+expect 0 "street_three_starts.job: read
+    131 bytes
+    A 3 (actions), W 4 (world states), C 2 (lamp kinds), \
 R 3 (results), S 3 (program states before the final one), first state 0, E 1 (end kinds)
     marks  at    28,     3 bytes
     cells  at    31,    72 bytes
@@ -30,7 +36,9 @@ R 3 (results), S 3 (program states before the final one), first state 0, E 1 (en
     goal   at   107,    12 bytes
     plan   at   119,    12 bytes
     starts marked: 0 2 3" '' read street_three_starts.job
-expect 0 "-: A 8 (actions), W 64 (world states), C 7 (lamp kinds), \
+expect 0 "-: read
+    9380 bytes
+    A 8 (actions), W 64 (world states), C 7 (lamp kinds), \
 R 8 (results), S 64 (program states before the final one), first state 0, E 1 (end kinds)
     marks  at    28,     8 bytes
     cells  at    36,  8192 bytes
@@ -38,7 +46,9 @@ R 8 (results), S 64 (program states before the final one), first state 0, E 1 (e
     goal   at  8292,   512 bytes
     plan   at  8804,   576 bytes
     starts marked: 0" '' read - < fails_from_3585_lamps.job
-expect 0 "g_first_4.job: A 4 (actions), W 3 (world states), C 2 (lamp kinds), \
+expect 0 "g_first_4.job: read
+    128 bytes
+    A 4 (actions), W 3 (world states), C 2 (lamp kinds), \
 R 2 (results), S 4 (program states before the final one), first state 4, E 1 (end kinds)
     marks  at    28,     4 bytes
     cells  at    32,    72 bytes
@@ -46,14 +56,62 @@ R 2 (results), S 4 (program states before the final one), first state 4, E 1 (en
     goal   at   107,     9 bytes
     plan   at   116,    12 bytes
     starts marked: 0" '' read g_first_4.job
+
+# Of a file that is refused what stands in it, with the lengths that are due.
+walk_numbers='A 2 (actions), W 1 (world states), C 1 (lamp kinds), R 2 (results), S 2 (program states before the final one)'
+walk_parts='    marks  at    28,     2 bytes
+    cells  at    30,     8 bytes
+    starts at    38,     1 byte
+    goal   at    39,     2 bytes
+    plan   at    41,     6 bytes'
+change walk_byte_7 walk 7 9
 expect 2 "$walk_read
-refused_05_marks.job: $refused_5" 'missing.job: No such file or directory' read missing.job walk.job refused_05_marks.job
+refused_05_marks.job: $refused_5
+    47 bytes
+    $walk_numbers, first state 0, E 1 (end kinds)
+$walk_parts" 'missing.job: No such file or directory' read missing.job walk.job refused_05_marks.job
+expect 1 "refused_01_file_size.job: $refused_1
+    8 bytes
+/dev/null: $refused_1
+    0 bytes
+walk_byte_7.job: $refused_2
+    47 bytes
+    $walk_numbers, first state 0, E 1 (end kinds)
+    byte 7 is 9, and has to be 0
+$walk_parts
+refused_03_part_place.job: $refused_3
+    47 bytes
+    $walk_numbers, first state 0, E 1 (end kinds)
+    marks  at  7168,   512 bytes, and 2 due
+    cells  at  7680,  2048 bytes, and 8 due
+    starts at  9728,   256 bytes, and 1 due
+    goal   at  9984,   512 bytes, and 2 due
+    plan   at 10496,  1536 bytes, and 6 due
+refused_04_part_length.job: $refused_4
+    47 bytes
+    $walk_numbers, first state 0, E 2 (end kinds)
+    marks  at    28,     2 bytes
+    cells  at    30,     8 bytes, and 12 due
+    starts at    38,     1 byte
+    goal   at    39,     2 bytes, and 3 due
+    plan   at    41,     6 bytes" '' \
+    read refused_01_file_size.job /dev/null walk_byte_7.job refused_03_part_place.job refused_04_part_length.job
+for refusal in 02_numbers 06_cells 07_end_cells 08_starts 09_goal 10_actions 11_targets; do
+    status=0
+    "$lampline" read "refused_$refusal.job" > output || status=$?
+    calls=$((calls + 1))
+    number=${refusal%%_*}
+    case "$status $(head -n 1 output)" in
+        "1 refused_$refusal.job: refused ${number#0} ("*) ;;
+        *) differs "lampline read refused_$refusal.job" ;;
+    esac
+done
 
 # ---- replay ----
 
 : > empty.log
 bytes 0 1 > entry.log
-bytes 0 1 1 0 2 0 0 0 > whole.log                 # bench line G on a line of one sound lamp
+cp "$root/samples/bench_g.log" whole.log             # one sound lamp
 bytes 0 1 2 1 0 0 > other_action.log              # next instead of test
 bytes 0 0 1 0 > after_end.log
 bytes 1 0 > other_first.log

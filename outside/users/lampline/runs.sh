@@ -15,17 +15,17 @@ expect 0 '-: goal after 5 steps' '' run - 0 2 < bench_g.job
 
 # The limit: none, enough, one too few, and 0.
 expect 0 'bench_g.job: goal after 4 steps' '' run bench_g.job 0 --limit 4 1
-expect 1 'bench_g.job: stopped 3 (the limit of steps; the run goes on)' '' run bench_g.job 0 --limit 3 1
-expect 1 'bench_g.job: stopped 0 (the limit of steps; the run goes on)' '' run bench_g.job 0 --limit 0 1
+expect 1 'bench_g.job: stopped 3 (the limit of steps; the run would go on)' '' run bench_g.job 0 --limit 3 1
+expect 1 'bench_g.job: stopped 0 (the limit of steps; the run would go on)' '' run bench_g.job 0 --limit 0 1
 expect 0 'g_first_4.job: goal after 0 steps' '' run g_first_4.job 0 --limit 0
 expect 1 'g_circles.job: fails 3 (circles) after 12 steps' '' run g_circles.job 0 --limit 12 1
-expect 1 'g_circles.job: stopped 11 (the limit of steps; the run goes on)' '' run g_circles.job 0 --limit 11 1
+expect 1 'g_circles.job: stopped 11 (the limit of steps; the run would go on)' '' run g_circles.job 0 --limit 11 1
 expect 0 'bench_g.job: goal after 4 steps' '' run bench_g.job 0 --limit 4294967295 1
 
 # Options stand anywhere and with '=' too, and the last of several counts.
-expect 1 'bench_g.job: stopped 3 (the limit of steps; the run goes on)' '' run --limit 3 bench_g.job 0 1
-expect 1 'bench_g.job: stopped 3 (the limit of steps; the run goes on)' '' run bench_g.job 0 1 --limit=3
-expect 1 'bench_g.job: stopped 2 (the limit of steps; the run goes on)' '' run bench_g.job --limit 9 0 --limit 2 1
+expect 1 'bench_g.job: stopped 3 (the limit of steps; the run would go on)' '' run --limit 3 bench_g.job 0 1
+expect 1 'bench_g.job: stopped 3 (the limit of steps; the run would go on)' '' run bench_g.job 0 1 --limit=3
+expect 1 'bench_g.job: stopped 2 (the limit of steps; the run would go on)' '' run bench_g.job --limit 9 0 --limit 2 1
 expect 0 'bench_g.job: goal after 8 steps' '' run -- bench_g.job 0 1 2
 
 # The end kinds of three ends: a cap needs nothing, a box one step more.

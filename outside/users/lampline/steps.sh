@@ -66,11 +66,11 @@ expect 1 "g_flags_twice.job: fails 1 (action not legal) from start 0 on a line o
     at lamp 1 of 1 (kind 2), state 2, world 1: action 3 is not legal" '' check --steps g_flags_twice.job
 
 # A limit: one too few, 0, just enough, and one that stops a circle before and after it is seen.
-expect 1 "walk.job: stopped 2 (the limit of steps; the run goes on)
+expect 1 "walk.job: stopped 2 (the limit of steps; the run would go on)
     step 1 at lamp 1 of 1 (kind 1), state 0, world 0: action 0, result 1; to state 1, world 0
     step 2 at lamp 1 of 1 (kind 1), state 1, world 0: action 1, result 0; moves on, to state 0, world 0
     at the line's end (kind 0), state 0, world 0: the limit" '' run walk.job 0 --steps --limit 2 1
-expect 1 "walk.job: stopped 0 (the limit of steps; the run goes on)
+expect 1 "walk.job: stopped 0 (the limit of steps; the run would go on)
     at lamp 1 of 1 (kind 1), state 0, world 0: the limit" '' run walk.job 0 --steps --limit 0 1
 expect 0 "walk.job: goal after 1 step
     step 1 at the line's end (kind 0), state 0, world 0: action 0, result 0; to state 2, world 0
@@ -82,16 +82,16 @@ expect 1 "fails_1_not_legal.job: fails 1 (action not legal) after 2 steps
 expect 1 "fails_2_no_branch.job: fails 2 (no branch for the result) after 0 steps
     at the line's end (kind 0), state 0, world 0: action 0, result 0, for which the plan has no branch" '' \
     run fails_2_no_branch.job 0 --steps --limit 0
-expect 1 "g_tests_on.job: stopped 1 (the limit of steps; the run goes on)
+expect 1 "g_tests_on.job: stopped 1 (the limit of steps; the run would go on)
     step 1 at lamp 1 of 1 (kind 2), state 0, world 0: action 0, result 1; to state 1, world 0
     at lamp 1 of 1 (kind 2), state 1, world 0: the limit" '' run g_tests_on.job 0 --steps --limit 1 2
-expect 1 "g_tests_on.job: stopped 2 (the limit of steps; the run goes on)
+expect 1 "g_tests_on.job: stopped 2 (the limit of steps; the run would go on)
     step 1 at lamp 1 of 1 (kind 2), state 0, world 0: action 0, result 1; to state 1, world 0
     step 2 at lamp 1 of 1 (kind 2), state 1, world 0: action 1, result 1; to state 1, world 0
     at lamp 1 of 1 (kind 2), state 1, world 0: as before step 2, so the plan goes round for ever" '' \
     run g_tests_on.job 0 --steps --limit 2 2
 # shellcheck disable=SC2046
-expect 1 "walk.job: stopped 1 (the limit of steps; the run goes on)
+expect 1 "walk.job: stopped 1 (the limit of steps; the run would go on)
     step 1 at lamp 1 of 65535 (kind 1), state 0, world 0: action 0, result 1; to state 1, world 0
     at lamp 1 of 65535 (kind 1), state 1, world 0: the limit" '' run walk.job 0 --steps --limit 1 $(lamps 65535)
 

@@ -60,7 +60,7 @@ state 2, 0 lamps left: ended' "$step" '1 0 0'
 lampline: $not_a_result 'one' is none
 state 0, 1 lamp left: action 0, result 2
 walk.job: $no_branch
-state 0, 1 lamp left: action 0, result none" "$step" one 2 ^D
+state 0, 1 lamp left: action 0, result none: the plan has not ended" "$step" one 2 ^D
 
     # Results that are typed, and shown in a file.
     expected_status=0 expected_output=expected_lines

@@ -11,7 +11,7 @@ complains 'usage: lampline check [--steps] FILE..' check
 complains 'usage: lampline check [--steps] FILE..' check --steps --
 complains 'usage: lampline check-up-to [--steps] LAMPS FILE..' check-up-to
 complains 'usage: lampline check-up-to [--steps] LAMPS FILE..' check-up-to 3
-complains 'usage: lampline run FILE START [--limit STEPS] [--end KIND] [--steps] [KIND..]' run --limit 3 walk.job
+complains 'usage: lampline run FILE START [--limit STEPS] [--end END] [--steps] [KIND..]' run --limit 3 walk.job
 complains 'usage: lampline walk FILE STATE WORLD COLUMN' walk walk.job 0 0
 complains 'usage: lampline walk FILE STATE WORLD COLUMN' walk walk.job 0 0 0 0
 complains 'usage: lampline read FILE..' read
@@ -26,7 +26,7 @@ complains 'usage: lampline cells RULES A W C R E' cells street.rules 3 4 2 3 1 1
 no_option() {
     option=$1
     shift
-    complains "'$option' is no option here, or its number is missing; lampline --help tells more" "$@"
+    complains "'$option' is no option here; lampline --help tells more" "$@"
 }
 no_option --quick check --quick walk.job
 no_option --quick check walk.job --quick --help
@@ -44,8 +44,8 @@ no_option -1 run walk.job -1
 no_option --steps=1 run walk.job 0 --steps=1
 no_option --step run walk.job 0 --step
 no_option --limits run walk.job 0 --limits 3
-no_option --limit run walk.job 0 --limit
-no_option --end run walk.job 0 1 --end
+complains "'--limit' needs a number after it" run walk.job 0 --limit
+complains "'--end' needs a number after it" run walk.job 0 1 --end
 
 # Numbers are digits, and in range.
 for word in '' +1 -1 ' 1' '1 ' 0x1 1.0 one 1a 4294967296 18446744073709551616; do
