@@ -5,7 +5,7 @@
 # they are built, which takes some minutes on a fresh checkout.
 
 RT = rt
-CFLAGS = -O2
+CFLAGS ?= -O2
 FUZZ_CC = clang
 FUZZ_SECONDS = 600
 
@@ -51,7 +51,7 @@ define prove
 @mkdir -p target
 @echo 'proving and building $@'
 @$(RT) $(1) > target/make.log 2>&1 || { cat target/make.log; exit 1; }
-@touch $@
+@test -s $@ && touch $@
 endef
 
 $(LIBRARY): crates.txt $(call sources_of,nessflurry_c)
@@ -78,9 +78,9 @@ FUZZ = $(call objects_of,outside/fuzz/*.c $(addprefix outside/compare/,calls.c l
 
 link = @mkdir -p $(@D) && echo 'linking $@' && $(CC) $(CFLAGS) $(LDFLAGS) -pthread $(filter %.o %.a,$^) -o $@
 
-$(BUILD)/%.o: %.c
+$(BUILD)/%.o: %.c $(GUIDES)
 	@mkdir -p $(@D)
-	@$(CC) -std=c11 $(CFLAGS) -Wall -Wextra -pthread -MMD -MP -Iinclude -Ioutside -c $< -o $@
+	@$(CC) -std=c11 $(CPPFLAGS) $(CFLAGS) -Wall -Wextra -pthread -MMD -MP -Iinclude -Ioutside -c $< -o $@
 
 $(BIN)/lampline: $(LAMPLINE) $(LIBRARY)
 	$(link)
@@ -104,6 +104,9 @@ $(BUILD)/fuzz: $(FUZZ) $(PLAIN) $(LIBRARY) $(PAIR_SUM)
 COMPARED =
 UNDER =
 
+# Where the tests of what users get put their files.
+export SCRATCH = $(BUILD)/users
+
 test: test-headers test-plain test-compare test-users
 
 # The header under all warnings.
@@ -124,8 +127,12 @@ test-users: $(BIN)/lampline $(BIN)/street $(BUILD)/sample_line $(PROGRAM)
 	outside/users/program $(PROGRAM)
 	outside/users/lampline/test $(BIN)/lampline
 	outside/users/example $(BIN)/street
-	outside/users/building $(BIN)
-	outside/users/install
+	outside/users/building $(BUILD) $(BIN)
+	outside/users/install $(BUILD) $(BIN)
+
+# What is proved comes before, so that modes which are made at once do not prove it at once.
+test-long test-sanitize test-valgrind: | $(LIBRARY) $(PAIR_SUM) $(PROGRAM)
+fuzz: | $(LIBRARY) $(PAIR_SUM)
 
 test-long:
 	$(MAKE) test-compare COMPARED=long
@@ -140,10 +147,11 @@ test-valgrind:
 bench: $(BUILD)/bench
 	$(BUILD)/bench
 
-# What guides the fuzzer are the ways that the plain implementation takes (outside/fuzz/guides), and not its comparisons, which would
-# take most of the time. The corpus stays, so that the next run goes on from it; an input with a difference is kept beside it.
+# What guides the fuzzer are the ways that the plain implementation takes (outside/fuzz/guides), and not its comparisons, which
+# would take most of the time. The corpus stays, so that the next run goes on from it; an input with a difference is kept beside
+# it.
 fuzz:
-	$(MAKE) target/fuzz/fuzz BUILD=target/fuzz CC='$(FUZZ_CC)' CFLAGS='-g -O1 -fsanitize=fuzzer,address,undefined \
+	$(MAKE) target/fuzz/fuzz BUILD=target/fuzz GUIDES=outside/fuzz/guides CC='$(FUZZ_CC)' CFLAGS='-g -O1 -fsanitize=fuzzer,address,undefined \
 		-fno-sanitize-recover=all -fno-sanitize-coverage=trace-cmp -fsanitize-coverage-allowlist=outside/fuzz/guides'
 	outside/fuzz/seeds target/fuzz/seeds samples/*.job samples/*.rules
 	mkdir -p target/fuzz/corpus
@@ -160,11 +168,12 @@ install: $(LIBRARY) $(BIN)/lampline
 	install -m 644 lampline/lampline.1 '$(DESTDIR)$(MANDIR)/man1/lampline.1'
 	sed -e 's|@VERSION@|$(VERSION)|' -e 's|@INCLUDEDIR@|$(INCLUDEDIR)|' -e 's|@LIBDIR@|$(LIBDIR)|' include/nessflurry.pc.in \
 		> '$(DESTDIR)$(LIBDIR)/pkgconfig/nessflurry.pc'
+	chmod 644 '$(DESTDIR)$(LIBDIR)/pkgconfig/nessflurry.pc'
 
 uninstall:
 	rm -f '$(DESTDIR)$(BINDIR)/lampline' '$(DESTDIR)$(INCLUDEDIR)/nessflurry.h' '$(DESTDIR)$(LIBDIR)/libnessflurry_c.a' \
 		'$(DESTDIR)$(MANDIR)/man1/lampline.1' '$(DESTDIR)$(LIBDIR)/pkgconfig/nessflurry.pc'
 
 clean:
-	rm -rf target/c target/sanitize target/users target/samples target/fuzz/fuzz target/fuzz/outside
-	rm -f target/bin/lampline target/bin/street
+	rm -rf target/c target/sanitize target/fuzz/fuzz target/fuzz/outside
+	rm -f target/bin/lampline target/bin/street target/make.log

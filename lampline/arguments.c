@@ -24,7 +24,7 @@ bool take_number(const char *what, const char *word, uint32_t most, uint32_t *nu
 {
     if (is_number(word, most, number))
         return true;
-    complain("%s is a number from 0 to %lu, and '%s' is none", what, (unsigned long)most, word);
+    complain("%s must be a number from 0 to %lu, not '%s'", what, (unsigned long)most, word);
     return false;
 }
 

@@ -32,7 +32,8 @@ static enum status print_answer(const char *name, uint64_t answer)
                nessflurry_pairs_of(answer));
         return GOOD;
     case NESSFLURRY_NONE_UP_TO:
-        printf("%s: none up to %d lamp%s (right on each of these lines; longer ones are not looked at)\n", name, lamps, plural(lamps));
+        printf("%s: none up to %d lamp%s (right on each of these lines; longer ones are not looked at)\n", name, lamps,
+               plural(lamps));
         return GOOD;
     case NESSFLURRY_REFUSED: return print_refusal(name, answer);
     default: print_failure(name, answer); return NOT_GOOD;

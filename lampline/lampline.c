@@ -38,11 +38,12 @@ static enum status print_help(void)
     for (int i = 0; i < COMMANDS; i++)
         printf("    lampline %s %s\n        %s\n", commands[i].name, commands[i].words, commands[i].says);
     puts("    lampline --help\n    lampline --version\n\n"
-         "FILE is a job file, and '-' is standard input; after '--' no word is an option. Numbers are as in the job file,\n"
-         "from 0 on; lamp kinds are from 1 on. The exit status is 0 if all is well (accepted, none up to LAMPS, goal, moves\n"
-         "on, read, ended, possible, cells written), 1 if it is not (fails, refused, stopped, impossible, not ended), and 2\n"
-         "if there is no answer (wrong words, a file that cannot be read, output that cannot be written). lampline(1) and\n"
-         "docs/FORMAT.md tell more. The library's answers are proved; this program only prints them.");
+         "FILE is a job file; '-' for a file is standard input, but not for step. After '--' no word is an option. Numbers\n"
+         "are as in the job file, from 0 on; lamp kinds are from 1 on. The exit status is 0 if all is well (accepted, none\n"
+         "up to LAMPS, goal, moves on, read, ended, possible, cells written), 1 if it is not (fails, refused, stopped,\n"
+         "impossible, not ended), and 2 if there is no answer (wrong words, a file that cannot be read, output that cannot\n"
+         "be written). lampline(1) and docs/FORMAT.md tell more. The library's answers are proved; this program only\n"
+         "prints them.");
     return GOOD;
 }
 

@@ -1,6 +1,6 @@
 /*
- * The reader: the numbers of a job file, where its parts stand, and which starts it marks. Of a file that is refused, the numbers and
- * places are shown as they stand in it, so that what is wrong can be seen.
+ * The reader: the numbers of a job file, where its parts stand, and which starts it marks. Of a file that is refused, the numbers
+ * and places are shown as they stand in it, so that what is wrong can be seen.
  */
 #include "commands.h"
 #include "files.h"
@@ -27,8 +27,9 @@ static void print_numbers(const uint16_t *head)
 {
     printf("    A %d (actions), W %d (world states), C %d (lamp kinds), R %d (results), "
            "S %d (program states before the final one), first state %d, E %d (end kinds)\n",
-           head[NESSFLURRY_HEAD_ACTIONS], head[NESSFLURRY_HEAD_WORLDS], head[NESSFLURRY_HEAD_KINDS], head[NESSFLURRY_HEAD_RESULTS],
-           head[NESSFLURRY_HEAD_STATES], head[NESSFLURRY_HEAD_FIRST_STATE], head[NESSFLURRY_HEAD_LAST_END] + 1);
+           head[NESSFLURRY_HEAD_ACTIONS], head[NESSFLURRY_HEAD_WORLDS], head[NESSFLURRY_HEAD_KINDS],
+           head[NESSFLURRY_HEAD_RESULTS], head[NESSFLURRY_HEAD_STATES], head[NESSFLURRY_HEAD_FIRST_STATE],
+           head[NESSFLURRY_HEAD_LAST_END] + 1);
 }
 
 /* The length that the numbers make. */

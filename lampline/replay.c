@@ -10,7 +10,8 @@ enum { ENTRY_SIZE = 2 }; /* an action and a result */
 static enum status print_impossible(const struct file *log, uint16_t place)
 {
     const uint8_t *const entry = log->bytes + ENTRY_SIZE * (size_t)place;
-    printf("%s: impossible at entry %d, counted from 0 (action %d, result %d): no start and line give the log up to and with it\n",
+    printf("%s: impossible at entry %d, counted from 0 (action %d, result %d): "
+           "no start and line give the log up to and with it\n",
            log->name, place, entry[0], entry[1]);
     return NOT_GOOD;
 }

@@ -24,25 +24,44 @@ int LLVMFuzzerTestOneInput(const uint8_t *data, size_t size);
 static struct file file;
 static struct job job;
 
-/* The job of the file, which is not refused. Gaps are not looked for. */
-static void take_job(void)
+static const uint8_t *part(enum part part) { return file.bytes + part_offset(&file, part); }
+
+static void take_cells(void)
 {
-    const uint8_t *const bytes = file.bytes, *cell = bytes + part_offset(&file, CELLS), *goal = bytes + part_offset(&file, GOAL),
-                  *row = bytes + part_offset(&file, PLAN);
-    set_numbers(&job, (struct job_numbers){bytes[0], bytes[1], bytes[2], bytes[3], bytes[4], bytes[6]});
-    job.first = bytes[5];
-    memcpy(job.marks, bytes + part_offset(&file, MARKS), job.actions);
-    memcpy(job.starts, bytes + part_offset(&file, STARTS), job.worlds);
+    const uint8_t *cell = part(CELLS);
     for (int action = 0; action < job.actions; action++)
         for (int world = 0; world < job.worlds; world++)
             for (int column = 0; column < columns_of(&job); column++, cell += 2)
                 job.cells[action][world][column] = (struct cell){cell[0], cell[1]};
+}
+
+static void take_goal(void)
+{
+    const uint8_t *goal = part(GOAL);
     for (int world = 0; world < job.worlds; world++, goal += columns_of(&job))
         memcpy(job.goal[world], goal, columns_of(&job));
+}
+
+static void take_plan(void)
+{
+    const uint8_t *row = part(PLAN);
     for (int state = 0; state < job.states; state++, row += 1 + job.results) {
         job.action[state] = row[0];
         memcpy(job.target[state], row + 1, job.results);
     }
+}
+
+/* The job of the file, which is not refused. Gaps are not looked for. */
+static void take_job(void)
+{
+    const uint8_t *const bytes = file.bytes;
+    set_numbers(&job, (struct job_numbers){bytes[0], bytes[1], bytes[2], bytes[3], bytes[4], bytes[6]});
+    job.first = bytes[5];
+    memcpy(job.marks, part(MARKS), job.actions);
+    memcpy(job.starts, part(STARTS), job.worlds);
+    take_cells();
+    take_goal();
+    take_plan();
 }
 
 /* Answers the refusal of the file, or 0. */

@@ -38,7 +38,7 @@ static uint8_t mark_from(uint8_t number, uint32_t rarity) { return number > 1 ? 
 
 enum { NUMBERS = 8, PAIRS = 20 }; /* bytes of a job file before its parts */
 
-enum { MANY_CELLS = 2048 }; /* there are that many for every W, E and C, if A is low enough */
+enum { MANY_CELLS = 2048 }; /* at least two actions stay, whatever W, E and C are */
 
 static uint32_t cells_of(const struct job *job) { return (uint32_t)job->actions * job->worlds * columns_of(job); }
 
@@ -196,7 +196,7 @@ static void take_rule(struct rules *rules, struct source *from)
     add_rule(rules, &rule);
 }
 
-static_assert(ANY_VALUE == NONE && KEEP == NONE, "a value that is none is any, or is kept");
+static_assert((int)ANY_VALUE == NONE && (int)KEEP == NONE, "a value that is none is any, or is kept");
 
 void repair_rules(struct rules *rules, const struct arguments *with, const uint8_t *bytes, size_t size, struct random *random)
 {

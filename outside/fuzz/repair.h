@@ -1,6 +1,7 @@
 /*
- * Files that are not refused, from any bytes. A file that is not refused and has no gaps comes to itself, so that a sample is a
- * seed for these as well, and a change of one of its bytes is mostly one change of the job or of the rules.
+ * Files that are not refused, from any bytes. A file that is not refused, and has no gaps and not very many cells, comes to
+ * itself, so that a sample is a seed for these as well, and a change of one of its bytes is mostly one change of the job or of
+ * the rules.
  */
 #ifndef OUTSIDE_REPAIR_H
 #define OUTSIDE_REPAIR_H

@@ -2,10 +2,12 @@
  * The files in samples/, which are looked for in the repository's root. Some are of jobs, or of rules, which other cases are
  * about, or of such a job with a mistake in its plan. Beside each job is the line that the program prints for it.
  */
+#define _POSIX_C_SOURCE 200809L
 #include "cases.h"
 #include "job_files/families.h"
 #include "job_files/rules_files.h"
 
+#include <glob.h>
 #include <stdio.h>
 
 static struct file sample;
@@ -86,31 +88,6 @@ static void known_samples(void)
 
 /* ---- Lines ---- */
 
-static const char *const job_names[] = {
-    "walk",
-    "fails_1_not_legal",
-    "fails_2_no_branch",
-    "fails_3_circles",
-    "fails_4_goal_false",
-    "refused_01_file_size",
-    "refused_02_numbers",
-    "refused_03_part_place",
-    "refused_04_part_length",
-    "refused_05_marks",
-    "refused_06_cells",
-    "refused_07_end_cells",
-    "refused_08_starts",
-    "refused_09_goal",
-    "refused_10_actions",
-    "refused_11_targets",
-    "bench_g",
-    "three_ends",
-    "three_ends_no_fuse_box",
-    "street",
-    "street_left_dark",
-    "fails_from_3585_lamps",
-};
-
 /* The line that the program prints, and how long it is: with room for a word, five numbers and the kind of each lamp. */
 static char text[100 + 4 * NESSFLURRY_LINE_SIZE];
 static size_t text_size;
@@ -144,11 +121,11 @@ static void put_answer(uint64_t answer)
     text[text_size++] = '\n';
 }
 
-static void expect_line(const char *name)
+/* NAME.line stands beside NAME.job. */
+static void expect_line(const char *job_name)
 {
-    char job_name[64], line_name[64];
-    snprintf(job_name, sizeof job_name, "samples/%s.job", name);
-    snprintf(line_name, sizeof line_name, "samples/%s.line", name);
+    char line_name[64];
+    snprintf(line_name, sizeof line_name, "%.*s.line", (int)(strlen(job_name) - strlen(".job")), job_name);
     read_sample(job_name);
     file = sample;
     put_answer(check_with((struct sizes){NESSFLURRY_LINE_SIZE, NESSFLURRY_LIST_SIZE, NESSFLURRY_WORDS_SIZE}));
@@ -157,7 +134,10 @@ static void expect_line(const char *name)
 
 void sample_cases(void)
 {
+    glob_t jobs = {0};
     known_samples();
-    for (size_t i = 0; i < sizeof job_names / sizeof *job_names; i++)
-        expect_line(job_names[i]);
+    expect("samples/*.job", (uint64_t)glob("samples/*.job", 0, NULL, &jobs), 0);
+    for (size_t i = 0; i < jobs.gl_pathc; i++)
+        expect_line(jobs.gl_pathv[i]);
+    globfree(&jobs);
 }

@@ -69,7 +69,7 @@ state 0, 65534 lamps left: action 0, result none: the plan has not ended' '' ste
 end
 
 # Words that are no results. The fourth has 15 letters, and the fifth one more; in the last is a zero byte.
-not_a_result='a result is a number from 0 to 255, and'
+not_a_result='a result must be a number from 0 to 255, not'
 printf 'one 256 -1 000000000000001 0000000000000000 averyverylongword 0\0' > results
 expect 2 'state 0, 1 lamp left: action 0, result one
 state 0, 1 lamp left: action 0, result 256
@@ -78,15 +78,15 @@ state 0, 1 lamp left: action 0, result 000000000000001
 state 1, 1 lamp left: action 1, result 000000000000...
 state 1, 1 lamp left: action 1, result averyverylon...
 state 1, 1 lamp left: action 1, result 0?
-state 1, 1 lamp left: action 1, result none: the plan has not ended' "$not_a_result 'one' is none
-$not_a_result '256' is none
-$not_a_result '-1' is none
-$not_a_result '000000000000...' is none
-$not_a_result 'averyverylon...' is none
-$not_a_result '0?' is none" step walk.job 1 < results
+state 1, 1 lamp left: action 1, result none: the plan has not ended' "$not_a_result 'one'
+$not_a_result '256'
+$not_a_result '-1'
+$not_a_result '000000000000...'
+$not_a_result 'averyverylon...'
+$not_a_result '0?'" step walk.job 1 < results
 expect 2 "state 0, 0 lamps left: action 0, result x
 state 0, 0 lamps left: action 0, result 0
-state 2, 0 lamps left: ended" "$not_a_result 'x' is none" step walk.job 0 << end
+state 2, 0 lamps left: ended" "$not_a_result 'x'" step walk.job 0 << end
 x 0
 end
 

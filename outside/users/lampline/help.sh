@@ -25,11 +25,12 @@ lampline: the operations of Nessflurry, the proved checker for plans of street l
     lampline --help
     lampline --version
 
-FILE is a job file, and '-' is standard input; after '--' no word is an option. Numbers are as in the job file,
-from 0 on; lamp kinds are from 1 on. The exit status is 0 if all is well (accepted, none up to LAMPS, goal, moves
-on, read, ended, possible, cells written), 1 if it is not (fails, refused, stopped, impossible, not ended), and 2
-if there is no answer (wrong words, a file that cannot be read, output that cannot be written). lampline(1) and
-docs/FORMAT.md tell more. The library's answers are proved; this program only prints them.
+FILE is a job file; '-' for a file is standard input, but not for step. After '--' no word is an option. Numbers
+are as in the job file, from 0 on; lamp kinds are from 1 on. The exit status is 0 if all is well (accepted, none
+up to LAMPS, goal, moves on, read, ended, possible, cells written), 1 if it is not (fails, refused, stopped,
+impossible, not ended), and 2 if there is no answer (wrong words, a file that cannot be read, output that cannot
+be written). lampline(1) and docs/FORMAT.md tell more. The library's answers are proved; this program only
+prints them.
 end
 expect_file 0 help '' --help
 expect_file 0 help '' --help check
@@ -43,7 +44,9 @@ commands_in() { sed -n 's/^ *lampline \([a-z-][a-z-]*\).*/\1/p' "$1" | sort -u; 
 options_in() { grep -o -e '--[a-z][a-z-]*' "$1" | sort -u; }
 
 compare_man_page() {
-    LC_ALL=C MANWIDTH=200 man --nh --nj -l "$root/lampline/lampline.1" > page
+    env -u MANOPT -u MAN_KEEP_FORMATTING -u MANROFFSEQ LC_ALL=C MANWIDTH=200 \
+        man --warnings --nh --nj -l "$root/lampline/lampline.1" > page 2> warnings
+    [ ! -s warnings ] || differs "the man page, of which man says: $(cat warnings)"
     sed -n '/^SYNOPSIS/,/^[A-Z]/p' page > synopsis
     calls=$((calls + 1))
     commands_in help > help_names
@@ -53,8 +56,8 @@ compare_man_page() {
     diff help_names page_names || differs 'the commands and options of lampline --help and of the man page'
 }
 
-if [ -e "$root/lampline/lampline.1" ] && command -v man > /dev/null; then
+if command -v man > /dev/null; then
     compare_man_page
 else
-    echo 'left out: the man page, since it or man(1) is not there'
+    echo 'left out: the man page, since there is no man(1)'
 fi

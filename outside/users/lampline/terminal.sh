@@ -57,7 +57,7 @@ state 2, 0 lamps left: ended' "$step" '1 0 0'
 
     # Complaints, refusals, and the end of what is typed.
     expect_typed 2 "state 0, 1 lamp left: action 0, result one
-lampline: $not_a_result 'one' is none
+lampline: $not_a_result 'one'
 state 0, 1 lamp left: action 0, result 2
 walk.job: $no_branch
 state 0, 1 lamp left: action 0, result none: the plan has not ended" "$step" one 2 ^D

@@ -49,27 +49,27 @@ complains "'--end' needs a number after it" run walk.job 0 1 --end
 
 # Numbers are digits, and in range.
 for word in '' +1 -1 ' 1' '1 ' 0x1 1.0 one 1a 4294967296 18446744073709551616; do
-    complains "the limit is a number from 0 to 4294967295, and '$word' is none" run bench_g.job 0 --limit "$word" 1
-    complains "the limit is a number from 0 to 4294967295, and '$word' is none" run bench_g.job 0 "--limit=$word" 1
+    complains "the limit must be a number from 0 to 4294967295, not '$word'" run bench_g.job 0 --limit "$word" 1
+    complains "the limit must be a number from 0 to 4294967295, not '$word'" run bench_g.job 0 "--limit=$word" 1
 done
 for word in '' +1 ' 1' '1 ' 0x1 one 256 4294967296; do
-    complains "the end kind is a number from 0 to 255, and '$word' is none" run bench_g.job 0 --end "$word"
-    complains "the start is a number from 0 to 255, and '$word' is none" run bench_g.job "$word" 1
-    complains "a lamp's kind is a number from 0 to 255, and '$word' is none" run bench_g.job 0 1 "$word"
-    complains "the program state is a number from 0 to 255, and '$word' is none" walk bench_g.job "$word" 0 0
-    complains "the world state is a number from 0 to 255, and '$word' is none" walk bench_g.job 0 "$word" 0
-    complains "the column is a number from 0 to 255, and '$word' is none" walk bench_g.job 0 0 "$word"
-    complains "A is a number from 0 to 255, and '$word' is none" cells street.rules "$word" 4 2 3 1
-    complains "W is a number from 0 to 255, and '$word' is none" cells street.rules 3 "$word" 2 3 1
-    complains "C is a number from 0 to 255, and '$word' is none" cells street.rules 3 4 "$word" 3 1
-    complains "R is a number from 0 to 255, and '$word' is none" cells street.rules 3 4 2 "$word" 1
-    complains "E is a number from 0 to 255, and '$word' is none" cells street.rules 3 4 2 3 "$word"
+    complains "the end kind must be a number from 0 to 255, not '$word'" run bench_g.job 0 --end "$word"
+    complains "the start must be a number from 0 to 255, not '$word'" run bench_g.job "$word" 1
+    complains "a lamp's kind must be a number from 0 to 255, not '$word'" run bench_g.job 0 1 "$word"
+    complains "the program state must be a number from 0 to 255, not '$word'" walk bench_g.job "$word" 0 0
+    complains "the world state must be a number from 0 to 255, not '$word'" walk bench_g.job 0 "$word" 0
+    complains "the column must be a number from 0 to 255, not '$word'" walk bench_g.job 0 0 "$word"
+    complains "A must be a number from 0 to 255, not '$word'" cells street.rules "$word" 4 2 3 1
+    complains "W must be a number from 0 to 255, not '$word'" cells street.rules 3 "$word" 2 3 1
+    complains "C must be a number from 0 to 255, not '$word'" cells street.rules 3 4 "$word" 3 1
+    complains "R must be a number from 0 to 255, not '$word'" cells street.rules 3 4 2 "$word" 1
+    complains "E must be a number from 0 to 255, not '$word'" cells street.rules 3 4 2 3 "$word"
 done
 for word in '' +1 ' 1' one 65536 4294967297; do
-    complains "the number of lamps is a number from 0 to 65535, and '$word' is none" check-up-to "$word" walk.job
-    complains "the number of lamps is a number from 0 to 65535, and '$word' is none" step walk.job "$word"
+    complains "the number of lamps must be a number from 0 to 65535, not '$word'" check-up-to "$word" walk.job
+    complains "the number of lamps must be a number from 0 to 65535, not '$word'" step walk.job "$word"
 done
-complains "the limit is a number from 0 to 4294967295, and '--steps' is none" run bench_g.job 0 --limit --steps
-complains "a lamp's kind is a number from 0 to 255, and '-1' is none" run bench_g.job 0 -- 1 -1
+complains "the limit must be a number from 0 to 4294967295, not '--steps'" run bench_g.job 0 --limit --steps
+complains "a lamp's kind must be a number from 0 to 255, not '-1'" run bench_g.job 0 -- 1 -1
 expect 0 'bench_g.job: goal after 4 steps' '' run bench_g.job 000 0000000000000000000000001
 expect 1 "walk.job: $no_line" '' run walk.job 0 255 --end 255
