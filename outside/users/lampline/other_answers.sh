@@ -96,6 +96,10 @@ refused_04_part_length.job: $refused_4
     goal   at    39,     2 bytes, and 3 due
     plan   at    41,     6 bytes" '' \
     read refused_01_file_size.job /dev/null walk_byte_7.job refused_03_part_place.job refused_04_part_length.job
+expect 1 "bytes_28.job: $refused_3
+    28 bytes
+    $walk_numbers, first state 0, E 1 (end kinds)
+$walk_parts" '' read bytes_28.job
 for refusal in 02_numbers 06_cells 07_end_cells 08_starts 09_goal 10_actions 11_targets; do
     status=0
     "$lampline" read "refused_$refusal.job" > output || status=$?
