@@ -13,11 +13,11 @@ use lib.Seq.{getD-take, getD-drop}
 use Rattle.lamp_line.specs.Lists.{blocks}
 use Rattle.lamp_line.specs.Refusals.{refusal, answerBy}
 use Rattle.lamp_line.specs.Tables.{worldState, Outcome, outcome, endKinds, columns}
+use Rattle.job_layout.specs.Layout.{jobColumns, byte, head, sizesOf, cellsLength, nextPlace, cellCount, width}
 use Rattle.lamp_line.specs.declared.WorldState.{WorldState}
 use Rattle.lamp_line.proofs.Scan.{none-below}
 use Rattle.job_layout.specs.FileRefusals.{cellWrongIn, cellWrongAt}
 use Rattle.job_layout.specs.JobTables.{outcomes}
-use Rattle.job_layout.specs.Layout.{byte, head, sizesOf, cellsLength, nextPlace, cellCount, width}
 use Rattle.job_layout.specs.declared.Sizes.{Sizes}
 use Rattle.fluent_rules.specs.CellRules.{matches, ruleOutcome, cellBy, ruleCell}
 use Rattle.fluent_rules.specs.CellsPart.{cellBytes, cellsPart}
@@ -125,7 +125,7 @@ module _ (rules s before after : List ℕ) (filled : CellsFilled rules (sizesOf 
   cell a w c = ruleCell (rulesOf rules) (endKinds (head s .ends)) a (worldState w) c
 
   -- The two bytes of a cell in the file.
-  byte-is : (a w c b : ℕ) → a < head s .actions → w < head s .worlds → c < columns (head s .ends) (head s .kinds) → b < 2 →
+  byte-is : (a w c b : ℕ) → a < head s .actions → w < head s .worlds → c < jobColumns (head s) → b < 2 →
       byte s (nextPlace (head s) a (worldState w) c + b) ≡ getD (cellBytes (cell a w c)) b 0
   unfolding columns cellsPart
   byte-is a w c b a< w< c< b< =
@@ -147,7 +147,7 @@ module _ (rules s before after : List ℕ) (filled : CellsFilled rules (sizesOf 
   cell-right : (i : ℕ) → i < cellCount (head s) → cellWrongAt s (head s .cells .offset) (head s .worlds) (head s .results) i ≡ false
   unfolding columns
   cell-right i i< =
-      let width = columns (head s .ends) (head s .kinds) in
+      let width = jobColumns (head s) in
       let row = i / width in
       let a = row / head s .worlds in
       let w = row % head s .worlds in
@@ -174,7 +174,7 @@ module _ (rules s before after : List ℕ) (filled : CellsFilled rules (sizesOf 
             rw (
               lt-ltb a (head s .actions) a<,
               lt-ltb (w .0) (head s .worlds) w<,
-              lt-ltb c (columns (head s .ends) (head s .kinds)) c<,
+              lt-ltb c (jobColumns (head s)) c<,
               rw place at (byte-is a (w .0) c 0 a< w< c< (omega arith)),
               byte-is a (w .0) c 1 a< w< c< (omega arith),
             )

@@ -7,8 +7,8 @@ use Prim.Native.Nat.{ℕ, _<_}
 use lib.ListN.{take, drop}
 use Rattle.plans.specs.Plan.{Action}
 use Rattle.lamp_line.specs.declared.WorldState.{WorldState}
-use Rattle.lamp_line.specs.Tables.{columns, endKinds}
-use Rattle.job_layout.specs.Layout.{head, sizesOf, cellsLength}
+use Rattle.lamp_line.specs.Tables.{endKinds}
+use Rattle.job_layout.specs.Layout.{jobColumns, head, sizesOf, cellsLength}
 use Rattle.job_layout.specs.JobTables.{tablesOf}
 use Rattle.job_layout.specs.FileRefusals.{cellWrong}
 use Rattle.fluent_rules.specs.CellRules.{ruleCell}
@@ -24,7 +24,7 @@ cellsPartOf s = take (cellsLength (head s)) (drop (head s .cells .offset) s)
 pub record CellsByRules (rules s : List ℕ) : Type 0 where
   pub not-6 : cellWrong s (head s) ≡ false
   pub cells :
-      (a : Action) (w : WorldState) (c : ℕ) → a < head s .actions → w .0 < head s .worlds → c < columns (head s .ends) (head s .kinds) →
+      (a : Action) (w : WorldState) (c : ℕ) → a < head s .actions → w .0 < head s .worlds → c < jobColumns (head s) →
       tablesOf s .cell a w c ≡ ruleCell (rulesOf rules) (endKinds (head s .ends)) a w c
 
 -- It does where the generator has filled a part for the job's numbers, and that part is the job's.

@@ -12,7 +12,7 @@ use Rattle.plans.proofs.Executions.{halted-not-forever}
 use Rattle.lamp_line.specs.declared.FailureKind.the-variants.{Circles}
 use Rattle.lamp_line.specs.declared.Ending.{Ending}
 use Rattle.lamp_line.specs.declared.Ending.the-variants.{Failure}
-use Rattle.lamp_line.specs.Tables.{Tables, Line, final, columns, column, lampTheory, planOf}
+use Rattle.lamp_line.specs.Tables.{Tables, Line, final, column, lampTheory, planOf, columnCount}
 use Rattle.lamp_line.specs.inner.WellFormed.{WellFormed}
 use Rattle.lamp_line.specs.Check.{situation}
 use Rattle.lamp_line.specs.Run.{Pair, Move, ends, stays, passes, Walk, ended, arrived, isFinal, judged, act, walk, lampWalk}
@@ -20,8 +20,7 @@ use Rattle.run_laws.specs.inner.Pairs.{InRange}
 use Rattle.run_laws.proofs.Steps.{steps-determined, step-passes}
 use Rattle.run_laws.proofs.Columns.{LineAt, line-at}
 use Rattle.run_laws.proofs.Actions.{act-final, ends-halted}
-use Rattle.run_laws.proofs.Walks.{walkAfter, walk-spent, walk-ends, walk-stays, walk-passes, walk-means}
-use Rattle.run_laws.proofs.Walks.{Lingers, not-ended, stays-on, WalkMeans, rests, lingers, arrives}
+use Rattle.run_laws.proofs.Walks.{walkAfter, walk-spent, walk-ends, walk-stays, walk-passes, walk-means, Lingers, not-ended, stays-on, WalkMeans, rests, lingers, arrives}
 use Rattle.run_laws.proofs.Circling.{lingers-forever, lingers-passes-none}
 use Rattle.fate_laws.specs.inner.Fates.{uncounted}
 use Rattle.fate_laws.specs.inner.Stretches.{next, stretch}
@@ -82,7 +81,7 @@ module _ (t : Tables) (c : ℕ) where
 
 -- ---- a walk that lingers for S·W actions
 
-module _ (t : Tables) (wf : WellFormed t) (c : ℕ) (c< : c < columns (t .ends) (t .kinds)) (p : Pair) (range : InRange t p) where
+module _ (t : Tables) (wf : WellFormed t) (c : ℕ) (c< : c < columnCount t) (p : Pair) (range : InRange t p) where
   -- A line at this column.
   here : LineAt t c
   here = line-at t c<

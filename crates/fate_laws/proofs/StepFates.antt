@@ -7,7 +7,7 @@ use native.Mathlib.Omega.{arith}
 use Rattle.lamp_line.specs.declared.FailureKind.the-variants.{Circles}
 use Rattle.lamp_line.specs.declared.Ending.{Ending}
 use Rattle.lamp_line.specs.declared.Ending.the-variants.{Failure}
-use Rattle.lamp_line.specs.Tables.{Tables, columns}
+use Rattle.lamp_line.specs.Tables.{Tables, columnCount}
 use Rattle.lamp_line.specs.inner.WellFormed.{WellFormed}
 use Rattle.lamp_line.specs.Run.{Pair, Move, ends, stays, passes, ended, arrived, lampWalk}
 use Rattle.run_laws.specs.inner.Pairs.{InRange}
@@ -16,7 +16,7 @@ use Rattle.fate_laws.specs.inner.Stretches.{next, stretch}
 use Rattle.fate_laws.proofs.Fates.{settled, stretch-fate}
 use Rattle.fate_laws.proofs.Stretches.{stretch-joined, stays-within}
 
-module _ (t : Tables) (wf : WellFormed t) (c : ℕ) (c< : c < columns (t .ends) (t .kinds)) where
+module _ (t : Tables) (wf : WellFormed t) (c : ℕ) (c< : c < columnCount t) where
   most : ℕ
   most = t .states * t .worlds
 

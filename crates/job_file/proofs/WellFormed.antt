@@ -13,13 +13,13 @@ use Rattle.plans.specs.Plan.{Action, Result}
 use Rattle.lamp_line.specs.declared.ProgramState.{ProgramState}
 use Rattle.lamp_line.specs.declared.WorldState.{WorldState}
 use Rattle.lamp_line.specs.Lists.{_∈_}
-use Rattle.lamp_line.specs.Tables.{Outcome, outcome, worldState, movesOn, columns, endKinds}
+use Rattle.lamp_line.specs.Tables.{Outcome, outcome, worldState, movesOn, endKinds}
+use Rattle.job_layout.specs.Layout.{jobColumns, byte, head, markPlace, nextPlace, resultPlace, actionPlace, targetPlace}
 use Rattle.lamp_line.specs.inner.WellFormed.{WellFormed}
 use Rattle.lamp_line.specs.Refusals.{some-below}
 use Rattle.lamp_line.proofs.Members.{only-member}
 use Rattle.lamp_line.proofs.Scan.{none-at, some-at}
 use Rattle.job_layout.specs.declared.Job.{Job}
-use Rattle.job_layout.specs.Layout.{byte, head, markPlace, nextPlace, resultPlace, actionPlace, targetPlace}
 use Rattle.job_layout.specs.JobTables.{outcomes, tablesBy, tablesOf}
 use Rattle.job_layout.specs.inner.Laid.{Laid}
 use Rattle.job_layout.specs.FileRefusals.{notBit, isSet, cellWrongIn, cellWrongAt, legalAt, legalAtEnd, movesOnAtEnd, actionWrongAt, targetWrongAt, rowWrong}
@@ -66,7 +66,7 @@ at-most-one next result =
 pub record LegalCell (s : List ℕ) (j : Job) (a : Action) (w : WorldState) (c : ℕ) (w′ : WorldState) (r : Result) : Type 0 where
   pub action-in : a < j .actions
   pub world-in : w .0 < j .worlds
-  pub column-in : c < columns (j .ends) (j .kinds)
+  pub column-in : c < jobColumns j
   pub legal : eqb (byte s (resultPlace j a w c)) 255 ≡ false
   pub next : w′ .0 ≡ byte s (nextPlace j a w c)
   pub result : r ≡ byte s (resultPlace j a w c)
@@ -77,7 +77,7 @@ module _ (s : List ℕ) (j : Job) where
   unfolding _∈_
   legal-cell a w w′ c r =
       choice (λ l. outcome w′ r ∈ l → LegalCell s j a w c w′ r)
-      (ltb a (j .actions) && ltb (w .0) (j .worlds) && ltb c (columns (j .ends) (j .kinds)))
+      (ltb a (j .actions) && ltb (w .0) (j .worlds) && ltb c (jobColumns j))
       (λ inside. choice (λ l. outcome w′ r ∈ l → LegalCell s j a w c w′ r) (eqb (byte s (resultPlace j a w c)) 255)
       (λ e m. absurd m)
       (λ e m. let is = only-member _ _ m in
@@ -97,12 +97,12 @@ module _ (s : List ℕ) (j : Job) where
     mark-bit : (a : Action) → a < j .actions → byte s (markPlace j a) ≤ 1
     mark-bit a a< = ltb-false _ _ (none-at (notBit s (j .marks .offset)) (j .actions) (none-applies .marks) a a<)
 
-    cell-right : (a : Action) (w : WorldState) (c : ℕ) → a < j .actions → w .0 < j .worlds → c < columns (j .ends) (j .kinds) →
+    cell-right : (a : Action) (w : WorldState) (c : ℕ) → a < j .actions → w .0 < j .worlds → c < jobColumns j →
         cellWrongIn (j .worlds) (j .results) (byte s (nextPlace j a w c)) (byte s (resultPlace j a w c)) ≡ false
     cell-right a w c a< w< c< =
         let row = digits-lt {q = a} {m = j .actions} {r = w .0} {c = j .worlds} a< w< in
-        none-at (cellWrongAt s (j .cells .offset) (j .worlds) (j .results)) (j .actions * j .worlds * columns (j .ends) (j .kinds))
-        (none-applies .cells) ((a * j .worlds + w .0) * columns (j .ends) (j .kinds) + c) (digits-lt row c<)
+        none-at (cellWrongAt s (j .cells .offset) (j .worlds) (j .results)) (j .actions * j .worlds * jobColumns j)
+        (none-applies .cells) ((a * j .worlds + w .0) * jobColumns j + c) (digits-lt row c<)
 
     -- An action that moves on has 255 for its result at each end.
     end-result : (a : Action) (w e : ℕ) → a < j .actions → w < j .worlds → e < endKinds (j .ends) → eqb (byte s (markPlace j a)) 1 ≡ true →
@@ -128,7 +128,7 @@ module _ (s : List ℕ) (j : Job) where
     single : (a : Action) (w : WorldState) (c : ℕ) → length (tablesBy s j .cell a w c) ≤ 1
     single a w c =
         choice (λ (l : List Outcome). length l ≤ 1)
-        (ltb a (j .actions) && ltb (w .0) (j .worlds) && ltb c (columns (j .ends) (j .kinds)))
+        (ltb a (j .actions) && ltb (w .0) (j .worlds) && ltb c (jobColumns j))
         (λ e. at-most-one (byte s (nextPlace j a w c)) (byte s (resultPlace j a w c)))
         (λ e. omega arith)
 
@@ -149,7 +149,7 @@ module _ (s : List ℕ) (j : Job) where
     no-outcome : (a : Action) (w : WorldState) (c : ℕ) → a < j .actions → c < endKinds (j .ends) → eqb (byte s (markPlace j a)) 1 ≡ true →
         tablesBy s j .cell a w c ≡ []
     no-outcome a w c a< c< moves =
-        choice (λ l. l ≡ []) (ltb a (j .actions) && ltb (w .0) (j .worlds) && ltb c (columns (j .ends) (j .kinds)))
+        choice (λ l. l ≡ []) (ltb a (j .actions) && ltb (w .0) (j .worlds) && ltb c (jobColumns j))
         (λ e. let w< = ltb-true _ _ (and-eq-true-iff (ltb a (j .actions)) _ .0 (and-eq-true-iff _ _ .0 e .0) .1) in
         rw (end-result a (w .0) c a< w< c< moves))
         (λ e. refl)
@@ -215,7 +215,7 @@ pub record Sound (s : List ℕ) (j : Job) : Type 0 where
   pub well-formed : WellFormed (tablesOf s)
   -- each cell's next world state is below W, whether the cell is legal or not
   pub next-below :
-      (a : Action) (w : WorldState) (c : ℕ) → a < j .actions → w .0 < j .worlds → c < columns (j .ends) (j .kinds) →
+      (a : Action) (w : WorldState) (c : ℕ) → a < j .actions → w .0 < j .worlds → c < jobColumns j →
       byte s (nextPlace j a w c) < j .worlds
 
 -- This is known wherever the reader answered j.

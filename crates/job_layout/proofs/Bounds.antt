@@ -12,10 +12,10 @@ use Rattle.plans.specs.Plan.{Action, Result}
 use Rattle.lamp_line.specs.declared.ProgramState.{ProgramState}
 use Rattle.lamp_line.specs.declared.WorldState.{WorldState}
 use Rattle.lamp_line.specs.Tables.{columns}
+use Rattle.job_layout.specs.Layout.{jobColumns, markPlace, nextPlace, startPlace, goalPlace, actionPlace}
 use Rattle.lamp_line.proofs.Products.{product-le}
 use Rattle.job_layout.specs.declared.Job.{Job}
 use Rattle.job_layout.specs.inner.Laid.{Laid}
-use Rattle.job_layout.specs.Layout.{markPlace, nextPlace, startPlace, goalPlace, actionPlace}
 
 -- The place of a cell among the cells is small, whatever the bytes of the head are.
 pub cell-fits :
@@ -39,11 +39,11 @@ module _ {s : List ℕ} {j : Job} (laid : Laid s j) {at : ℕ} where
   -- A cell: its next world state, and after it its result.
   module _
       (a : Action) (w : WorldState) (c : ℕ) (e : at ≡ nextPlace j a w c) (a< : a < j .actions) (w< : w .0 < j .worlds)
-      (c< : c < columns (j .ends) (j .kinds)) where
+      (c< : c < jobColumns j) where
     pub result-in : at + 1 < length s
     result-in =
         let row = digits-lt {q = a} {m = j .actions} {r = w .0} {c = j .worlds} a< w< in
-        let cell = digits-lt {q = a * j .worlds + w .0} {m = j .actions * j .worlds} {r = c} {c = columns (j .ends) (j .kinds)} row c< in
+        let cell = digits-lt {q = a * j .worlds + w .0} {m = j .actions * j .worlds} {r = c} {c = jobColumns j} row c< in
         omega (arith, laid .cells-in)
 
     pub next-in : at < length s
@@ -54,9 +54,9 @@ module _ {s : List ℕ} {j : Job} (laid : Laid s j) {at : ℕ} where
   start-in w e w< = omega (arith, laid .starts-in)
 
   -- A cell of the goal.
-  pub goal-in : (w : WorldState) (c : ℕ) → at ≡ goalPlace j w c → w .0 < j .worlds → c < columns (j .ends) (j .kinds) → at < length s
+  pub goal-in : (w : WorldState) (c : ℕ) → at ≡ goalPlace j w c → w .0 < j .worlds → c < jobColumns j → at < length s
   goal-in w c e w< c< =
-      omega (arith, laid .goal-in, digits-lt {q = w .0} {m = j .worlds} {r = c} {c = columns (j .ends) (j .kinds)} w< c<)
+      omega (arith, laid .goal-in, digits-lt {q = w .0} {m = j .worlds} {r = c} {c = jobColumns j} w< c<)
 
   -- The row of a program state: its action, and after it its targets.
   module _ (q : ProgramState) (e : at ≡ actionPlace j q) (q< : q .0 < j .states) where

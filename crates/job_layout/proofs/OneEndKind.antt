@@ -12,9 +12,9 @@ use lib.ListN.{length}
 use Rattle.lamp_line.specs.declared.WorldState.{WorldState}
 use Rattle.lamp_line.specs.Lists.{_≼_}
 use Rattle.lamp_line.specs.Tables.{endKinds, lampColumn, columns, columnOf}
+use Rattle.job_layout.specs.Layout.{jobColumns, byte, head, markPlace}
 use Rattle.lamp_line.specs.Refusals.{some-below}
 use Rattle.lamp_line.specs.Check.{rank}
-use Rattle.job_layout.specs.Layout.{byte, head, markPlace}
 use Rattle.job_layout.specs.FileRefusals.{outside, rangesWrong, numberWrong, differs, legalAtEnd}
 use Rattle.job_layout.specs.OneEndKind.{columnBefore, OneEndKindAsBefore}
 
@@ -83,7 +83,7 @@ order-before start start′ lamps lamps′ = (
 pub one-end-kind-as-before : OneEndKindAsBefore
 unfolding endKinds rank rangesWrong numberWrong
 one-end-kind-as-before s none =
-    let count : columns (head s .ends) (head s .kinds) ≡ head s .kinds + 1 = columns-before (byte s 6) (head s .kinds) none in
+    let count : jobColumns (head s) ≡ head s .kinds + 1 = columns-before (byte s 6) (head s .kinds) none in
     record {
       one-end = omega arith;
       columns-count = count;

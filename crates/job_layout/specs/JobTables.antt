@@ -6,9 +6,9 @@ use mathlib.Core.List.{List, [], _∷_}
 use Prim.Native.Nat.{ℕ}
 use lib.Dec.{eqb, ltb}
 use Rattle.lamp_line.specs.declared.ProgramState.{ProgramState}
-use Rattle.lamp_line.specs.Tables.{Outcome, outcome, Tables, programState, worldState, columns}
+use Rattle.lamp_line.specs.Tables.{Outcome, outcome, Tables, programState, worldState}
+use Rattle.job_layout.specs.Layout.{jobColumns, byte, head, markPlace, nextPlace, resultPlace, startPlace, goalPlace, actionPlace, targetPlace}
 use Rattle.job_layout.specs.declared.Job.{Job}
-use Rattle.job_layout.specs.Layout.{byte, head, markPlace, nextPlace, resultPlace, startPlace, goalPlace, actionPlace, targetPlace}
 
 -- Part 2: a cell with result 255 is not legal, so it has no outcome. Any other has one.
 abbrev pub outcomes : ℕ → ℕ → List Outcome
@@ -31,11 +31,11 @@ tablesBy s j =
       ends = j .ends;
       mark = λ a. cond (ltb a (j .actions)) (byte s (markPlace j a)) 0;
       cell = λ a w c.
-          cond (ltb a (j .actions) && ltb (w .0) (j .worlds) && ltb c (columns (j .ends) (j .kinds)))
+          cond (ltb a (j .actions) && ltb (w .0) (j .worlds) && ltb c (jobColumns j))
           (outcomes (byte s (nextPlace j a w c)) (byte s (resultPlace j a w c)))
           [];
       start = λ w. ltb (w .0) (j .worlds) && eqb (byte s (startPlace j w)) 1;
-      goal = λ w c. ltb (w .0) (j .worlds) && ltb c (columns (j .ends) (j .kinds)) && eqb (byte s (goalPlace j w c)) 1;
+      goal = λ w c. ltb (w .0) (j .worlds) && ltb c (jobColumns j) && eqb (byte s (goalPlace j w c)) 1;
       action = λ q. cond (ltb (q .0) (j .states)) (byte s (actionPlace j q)) 0;
       target = λ q r. cond (ltb (q .0) (j .states) && ltb r (j .results)) (branch (byte s (targetPlace j q r))) none;
     }

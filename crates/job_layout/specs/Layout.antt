@@ -56,6 +56,10 @@ sizesOf j =
 abbrev pub width : Sizes → ℕ
 width n = n .«end_kinds» + n .kinds
 
+-- How many columns the tables of a job have.
+abbrev pub jobColumns : Job → ℕ
+jobColumns j = columns (j .ends) (j .kinds)
+
 -- ---- the length that each part must have
 
 abbrev pub marksLength : Job → ℕ
@@ -63,7 +67,7 @@ marksLength j = j .actions
 
 -- How many cells there are; each takes two bytes.
 abbrev pub cellCount : Job → ℕ
-cellCount j = j .actions * j .worlds * columns (j .ends) (j .kinds)
+cellCount j = j .actions * j .worlds * jobColumns j
 
 abbrev pub cellsLength : Job → ℕ
 cellsLength j = 2 * cellCount j
@@ -72,7 +76,7 @@ abbrev pub startsLength : Job → ℕ
 startsLength j = j .worlds
 
 abbrev pub goalLength : Job → ℕ
-goalLength j = j .worlds * columns (j .ends) (j .kinds)
+goalLength j = j .worlds * jobColumns j
 
 abbrev pub planLength : Job → ℕ
 planLength j = j .states * (1 + j .results)
@@ -85,7 +89,7 @@ markPlace j a = j .marks .offset + a
 
 -- The cells are ordered by action, then by world state, then by column. Each has two bytes: the next world state and the result.
 abbrev pub nextPlace : Job → Action → WorldState → ℕ → ℕ
-nextPlace j a w c = j .cells .offset + 2 * ((a * j .worlds + w .0) * columns (j .ends) (j .kinds) + c)
+nextPlace j a w c = j .cells .offset + 2 * ((a * j .worlds + w .0) * jobColumns j + c)
 
 abbrev pub resultPlace : Job → Action → WorldState → ℕ → ℕ
 resultPlace j a w c = nextPlace j a w c + 1
@@ -96,7 +100,7 @@ startPlace j w = j .starts .offset + w .0
 
 -- The goal cells are ordered by world state, then by column.
 abbrev pub goalPlace : Job → WorldState → ℕ → ℕ
-goalPlace j w c = j .goal .offset + (w .0 * columns (j .ends) (j .kinds) + c)
+goalPlace j w c = j .goal .offset + (w .0 * jobColumns j + c)
 
 -- The plan has a row for each program state: first its action, then its target for each result.
 abbrev pub actionPlace : Job → ProgramState → ℕ

@@ -11,11 +11,11 @@ use lib.ListN.{length}
 use Rattle.plans.specs.Plan.{Action}
 use Rattle.lamp_line.specs.declared.WorldState.{WorldState}
 use Rattle.lamp_line.specs.Lists.{_≼_}
-use Rattle.lamp_line.specs.Tables.{Line, lineOf, endKinds, columns, column, Kinds, Fits, worldState}
+use Rattle.lamp_line.specs.Tables.{Line, lineOf, endKinds, column, Kinds, Fits, worldState}
+use Rattle.job_layout.specs.Layout.{jobColumns, byte, head, cellsLength, goalLength, markPlace, nextPlace, goalPlace}
 use Rattle.lamp_line.specs.Refusals.{some-below}
 use Rattle.lamp_line.specs.Check.{rank}
 use Rattle.job_layout.specs.declared.Job.{Job}
-use Rattle.job_layout.specs.Layout.{byte, head, cellsLength, goalLength, markPlace, nextPlace, goalPlace}
 use Rattle.job_layout.specs.JobTables.{tablesOf}
 use Rattle.job_layout.specs.FileRefusals.{outside, numberWrong, differs, movesOnAtEnd}
 
@@ -46,7 +46,7 @@ movesOnBefore s j a =
 -- All of it is as before for this file.
 pub record AsBefore (s : List ℕ) : Type 0 where
   pub one-end : endKinds (head s .ends) ≡ 1
-  pub columns-count : columns (head s .ends) (head s .kinds) ≡ head s .kinds + 1
+  pub columns-count : jobColumns (head s) ≡ head s .kinds + 1
   pub cells-length : cellsLength (head s) ≡ 2 * (head s .actions * head s .worlds * (head s .kinds + 1))
   pub goal-length : goalLength (head s) ≡ head s .worlds * (head s .kinds + 1)
   pub cell-place : (a : Action) (w : WorldState) (c : ℕ) → nextPlace (head s) a w c ≡ nextPlaceBefore (head s) a w c

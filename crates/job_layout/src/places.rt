@@ -1,8 +1,8 @@
 // How many entries the tables of a job have, and the place of each entry in the file.
 ghost use mathlib.Core.Path.{_≡_};
 ghost use Prim.Native.Nat.{_≤_};
-ghost use Rattle.lamp_line.specs.Tables.{lampColumn, columns};
-ghost use Rattle.job_layout.specs.Layout.{sizesOf, width, cellCount, goalLength, planLength, markPlace, nextPlace, startPlace, goalPlace, actionPlace};
+ghost use Rattle.lamp_line.specs.Tables.{lampColumn};
+ghost use Rattle.job_layout.specs.Layout.{jobColumns, sizesOf, width, cellCount, goalLength, planLength, markPlace, nextPlace, startPlace, goalPlace, actionPlace};
 use crate::Job;
 use crate::Sizes;
 use lamp_line::ProgramState;
@@ -30,7 +30,7 @@ pub fn width(sizes: Sizes) -> usize
 
 // How many columns the tables have: one for each kind of end and one for each kind of lamp.
 pub fn column_count(job: Job) -> u16
-    ensures { λ r. ⌜ r ≡ columns (job .ends) (job .kinds) ⌝ }
+    ensures { λ r. ⌜ r ≡ jobColumns job ⌝ }
 {
     job.ends as u16 + 1 + job.kinds as u16
 }

@@ -9,9 +9,9 @@ use lib.Dec.{eqb}
 use Rattle.plans.specs.Plan.{Action, Result}
 use Rattle.lamp_line.specs.declared.ProgramState.{ProgramState}
 use Rattle.lamp_line.specs.declared.WorldState.{WorldState}
-use Rattle.lamp_line.specs.Tables.{Outcome, outcome, Tables, programState, worldState, movesOn, columns}
+use Rattle.lamp_line.specs.Tables.{Outcome, outcome, Tables, programState, worldState, movesOn}
+use Rattle.job_layout.specs.Layout.{jobColumns, byte, markPlace, nextPlace, resultPlace, startPlace, goalPlace, actionPlace, targetPlace}
 use Rattle.job_layout.specs.declared.Job.{Job}
-use Rattle.job_layout.specs.Layout.{byte, markPlace, nextPlace, resultPlace, startPlace, goalPlace, actionPlace, targetPlace}
 use Rattle.job_layout.specs.JobTables.{outcomes, branch, tablesOf}
 use Rattle.job_file.specs.Reading.{Opened}
 use Rattle.job_file.proofs.WellFormed.{tables-are, sound}
@@ -35,7 +35,7 @@ module _ (s : List ℕ) {j : Job} (opened : Opened s j) {at : ℕ} where
 
   module _
       (a : Action) (w : WorldState) (c : ℕ) (e : at ≡ nextPlace j a w c) (a< : a < j .actions) (w< : w .0 < j .worlds)
-      (c< : c < columns (j .ends) (j .kinds)) where
+      (c< : c < jobColumns j) where
     cell-is : outcomes (byte s at) (byte s (at + 1)) ≡ tablesOf s .cell a w c
     cell-is =
         rw e
@@ -53,7 +53,7 @@ module _ (s : List ℕ) {j : Job} (opened : Opened s j) {at : ℕ} where
 
   -- A cell of the goal.
   pub goal-is :
-      (w : WorldState) (c : ℕ) → at ≡ goalPlace j w c → w .0 < j .worlds → c < columns (j .ends) (j .kinds) →
+      (w : WorldState) (c : ℕ) → at ≡ goalPlace j w c → w .0 < j .worlds → c < jobColumns j →
       eqb (byte s at) 1 ≡ tablesOf s .goal w c
   goal-is w c e w< c< =
       rw e

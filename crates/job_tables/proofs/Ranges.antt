@@ -7,7 +7,8 @@ use Rattle.plans.specs.Plan.{Action, Result}
 use Rattle.lamp_line.specs.declared.ProgramState.{ProgramState}
 use Rattle.lamp_line.specs.declared.WorldState.{WorldState}
 use Rattle.lamp_line.specs.Lists.{_∈_}
-use Rattle.lamp_line.specs.Tables.{Outcome, outcome, columns}
+use Rattle.lamp_line.specs.Tables.{Outcome, outcome}
+use Rattle.job_layout.specs.Layout.{jobColumns}
 use Rattle.lamp_line.specs.inner.WellFormed.{WellFormed}
 use Rattle.job_layout.specs.declared.Job.{Job}
 use Rattle.job_layout.specs.JobTables.{tablesOf}
@@ -51,7 +52,7 @@ module _ (s : List ℕ) (j : Job) (opened : Opened s j) where
   first-is = ap (λ (h : Job). h .first) (sound s j opened .is-head)
 
   -- There are at most sixteen columns.
-  pub columns-few : columns (j .ends) (j .kinds) ≤ 16
+  pub columns-few : jobColumns j ≤ 16
   columns-few = laid-out s j opened .columns-range
 
   -- The tables are well formed.

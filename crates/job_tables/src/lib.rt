@@ -4,7 +4,8 @@
 // for numbers within the table.
 ghost use mathlib.Core.Path.{_≡_};
 ghost use Prim.Native.Nat.{_<_};
-ghost use Rattle.lamp_line.specs.Tables.{movesOn, columns};
+ghost use Rattle.lamp_line.specs.Tables.{movesOn};
+ghost use Rattle.job_layout.specs.Layout.{jobColumns};
 ghost use Rattle.job_layout.specs.JobTables.{tablesOf};
 ghost use Rattle.job_file.specs.Reading.{Opened};
 ghost use Rattle.job_tables.specs.inner.Entries.{BytesOf, outcomesOf, targetOf};
@@ -52,7 +53,7 @@ pub fn read_cell_bytes(
     world: WorldState,
     column: u8,
 ) -> CellBytes
-    requires { ⌜ Opened (now file) job × (action < job .actions) × (world .0 < job .worlds) × (column < columns (job .ends) (job .kinds)) ⌝ }
+    requires { ⌜ Opened (now file) job × (action < job .actions) × (world .0 < job .worlds) × (column < jobColumns job) ⌝ }
     ensures { λ r. ⌜ BytesOf (tablesOf (now (file .entry)) .cell action world column) (job .worlds) r ⌝ }
 {
     let at = next_place(job, action, world, column);
@@ -64,7 +65,7 @@ pub fn read_cell_bytes(
 
 // The cell of an action in a world state, at a column.
 pub fn read_cell(file: &[u8], job: Job, action: u8, world: WorldState, column: u8) -> Cell
-    requires { ⌜ Opened (now file) job × (action < job .actions) × (world .0 < job .worlds) × (column < columns (job .ends) (job .kinds)) ⌝ }
+    requires { ⌜ Opened (now file) job × (action < job .actions) × (world .0 < job .worlds) × (column < jobColumns job) ⌝ }
     ensures { λ r. ⌜ outcomesOf r ≡ tablesOf (now (file .entry)) .cell action world column ⌝ }
 {
     let bytes = read_cell_bytes(file, job, action, world, column);
@@ -90,7 +91,7 @@ pub fn is_start(file: &[u8], job: Job, world: WorldState) -> bool
 
 // The goal is true in a world state, at a column.
 pub fn is_goal(file: &[u8], job: Job, world: WorldState, column: u8) -> bool
-    requires { ⌜ Opened (now file) job × (world .0 < job .worlds) × (column < columns (job .ends) (job .kinds)) ⌝ }
+    requires { ⌜ Opened (now file) job × (world .0 < job .worlds) × (column < jobColumns job) ⌝ }
     ensures { λ r. ⌜ r ≡ tablesOf (now (file .entry)) .goal world column ⌝ }
 {
     let at = goal_place(job, world, column);

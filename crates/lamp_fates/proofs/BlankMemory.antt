@@ -5,7 +5,7 @@ use Prim.Native.Nat.{ℕ, _≤_, _<_}
 use native.Mathlib.Decide.{decLt}
 use native.Mathlib.Omega.{arith}
 use lib.ListN.{getD, replicate, getD-replicate, length-replicate, List·getD-eq-default}
-use Rattle.lamp_line.specs.Tables.{Tables, columns}
+use Rattle.lamp_line.specs.Tables.{Tables, columnCount}
 use Rattle.lamp_line.specs.inner.WellFormed.{WellFormed}
 use Rattle.lamp_line.proofs.Products.{product-le}
 use Rattle.lamp_fates.specs.inner.Memory.{memorySize, Memory}
@@ -30,4 +30,4 @@ blank-memory t n enough =
 
 -- There are at most 16 columns, each with an entry for every pair.
 pub entries-most : {t : Tables} → WellFormed t → memorySize t ≤ 66560
-entries-most {t} wf = product-le 16 4160 (columns (t .ends) (t .kinds)) (pairs t) (wf .columns-range) (pairs-few wf)
+entries-most {t} wf = product-le 16 4160 (columnCount t) (pairs t) (wf .columns-range) (pairs-few wf)

@@ -7,23 +7,23 @@ use native.Mathlib.Omega.{arith}
 use lib.Arith.{digits-lt, digits-div, digits-mod}
 use lib.ListN.{length, set}
 use lib.Seq.{getD-set-same, getD-set-other}
-use Rattle.lamp_line.specs.Tables.{Tables, columns}
+use Rattle.lamp_line.specs.Tables.{Tables, columnCount}
 use Rattle.lamp_line.specs.Run.{Pair}
 use Rattle.run_laws.specs.inner.Pairs.{InRange, pairNumber, pairs}
 use Rattle.run_laws.proofs.Pairs.{pair-number-in, pair-number-injective}
 use Rattle.lamp_fates.specs.inner.Memory.{memorySize, entryPlace, remembered}
 
-module _ (t : Tables) (p : Pair) (column : ℕ) (in-range : InRange t p) (column-in : column < columns (t .ends) (t .kinds)) where
+module _ (t : Tables) (p : Pair) (column : ℕ) (in-range : InRange t p) (column-in : column < columnCount t) where
   -- The place is below the number of entries.
   pub place-below : entryPlace t p column < memorySize t
   place-below =
-      digits-lt {q = column} {m = columns (t .ends) (t .kinds)} {r = pairNumber (t .worlds) p} {c = pairs t} column-in (pair-number-in t p in-range)
+      digits-lt {q = column} {m = columnCount t} {r = pairNumber (t .worlds) p} {c = pairs t} column-in (pair-number-in t p in-range)
 
   -- So it is within a memory that has room.
   pub place-in : (memory : List ℕ) → memorySize t ≤ length memory → entryPlace t p column < length memory
   place-in memory room = omega (arith, place-below)
 
-  module _ (p′ : Pair) (column′ : ℕ) (in-range′ : InRange t p′) (column-in′ : column′ < columns (t .ends) (t .kinds)) where
+  module _ (p′ : Pair) (column′ : ℕ) (in-range′ : InRange t p′) (column-in′ : column′ < columnCount t) where
     -- Equal places are those of equal pairs at equal columns.
     same-place : entryPlace t p′ column′ ≡ entryPlace t p column → (p′ ≡ p) × (column′ ≡ column)
     same-place e = (pair-number-injective (t .worlds) p′ p (in-range′ .world-range) (in-range .world-range) number, at)

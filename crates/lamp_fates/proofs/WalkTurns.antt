@@ -15,7 +15,8 @@ use Rattle.lamp_line.specs.declared.WorldState.{WorldState}
 use Rattle.lamp_line.specs.declared.FailureKind.the-variants.{Circles}
 use Rattle.lamp_line.specs.declared.Ending.{Ending}
 use Rattle.lamp_line.specs.declared.Ending.the-variants.{Failure}
-use Rattle.lamp_line.specs.Tables.{Tables, columns}
+use Rattle.lamp_line.specs.Tables.{Tables}
+use Rattle.job_layout.specs.Layout.{jobColumns}
 use Rattle.lamp_line.specs.Run.{Pair, pair, ends, ended, judged, act, lampWalk}
 use Rattle.run_laws.specs.inner.Pairs.{InRange, pairNumber}
 use Rattle.run_laws.proofs.Actions.{act-final}
@@ -56,7 +57,7 @@ unknown memory = tally (λ v. eqb v 0) memory
 module _ {s : List ℕ} {j : Job} {first : Pair} {column : ℕ} where
   -- The walk begins.
   pub leaving-starts :
-      {memory : List ℕ} → Opened s j → Memory (tablesBy s j) memory → InRange (tablesBy s j) first → column < columns (j .ends) (j .kinds) →
+      {memory : List ℕ} → Opened s j → Memory (tablesBy s j) memory → InRange (tablesBy s j) first → column < jobColumns j →
       LeavingLinks s j first column memory memory first
   leaving-starts opened known in-range column-in =
       record {

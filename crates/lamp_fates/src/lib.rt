@@ -6,7 +6,7 @@
 ghost use mathlib.Core.Path.{_≡_};
 ghost use mathlib.Core.List.{List};
 ghost use Prim.Native.Nat.{ℕ, _+_, _*_, _<_};
-ghost use Rattle.lamp_line.specs.Tables.{columns};
+ghost use Rattle.job_layout.specs.Layout.{jobColumns};
 ghost use Rattle.lamp_line.specs.Run.{pair, ended};
 ghost use Rattle.job_layout.specs.JobTables.{tablesBy};
 ghost use Rattle.job_file.specs.Reading.{Opened};
@@ -110,7 +110,7 @@ fn walk_to_fate(
     column: u8,
 ) -> u16
     requires { ⌜ Opened (now file) job × Memory (tablesBy (now file) job) (now memory)
-        × InRange (tablesBy (now file) job) (pair state world) × (column < columns (job .ends) (job .kinds)) ⌝ }
+        × InRange (tablesBy (now file) job) (pair state world) × (column < jobColumns job) ⌝ }
     ensures { λ r. ⌜ WalkedTo (tablesBy (now (file .entry)) job) (pair state world) column r (now (memory .exit)) ⌝ }
 {
     let mut q = state;
@@ -178,7 +178,7 @@ pub fn fate_at(
     column: u8,
 ) -> Fate
     requires { ⌜ Opened (now file) job × Memory (tablesBy (now file) job) (now memory)
-        × InRange (tablesBy (now file) job) (pair state world) × (column < columns (job .ends) (job .kinds)) ⌝ }
+        × InRange (tablesBy (now file) job) (pair state world) × (column < jobColumns job) ⌝ }
     ensures { λ r. ⌜ LookedUp (tablesBy (now (file .entry)) job) (pair state world) column r (now (memory .exit)) ⌝ }
 {
     let entry = walk_to_fate(file, job, memory, state, world, column);

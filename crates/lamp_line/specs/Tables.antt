@@ -77,6 +77,10 @@ lampColumn ends kind = ends + kind
 unfoldable pub columns : ℕ → ℕ → ℕ
 columns ends kinds = endKinds ends + kinds
 
+-- How many columns the tables have.
+abbrev pub columnCount : Tables → ℕ
+columnCount t = columns (t .ends) (t .kinds)
+
 -- The column of the first of these lamps, or of the line's end if there is none, where the kinds of ends are 0 to `ends`.
 abbrev pub columnOf : ℕ → ℕ → List ℕ → ℕ
 columnOf ends end [] = end

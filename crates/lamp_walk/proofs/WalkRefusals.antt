@@ -7,7 +7,7 @@ use borrow.Author.Tests.{le-leb, lt-leb, lt-ltb, le-ltb}
 use lib.Dec.{leb, ltb}
 use Rattle.lamp_line.specs.declared.ProgramState.{ProgramState}
 use Rattle.lamp_line.specs.declared.WorldState.{WorldState}
-use Rattle.lamp_line.specs.Tables.{columns}
+use Rattle.job_layout.specs.Layout.{jobColumns}
 use Rattle.lamp_line.specs.Run.{pair, lampWalk}
 use Rattle.lamp_line.proofs.Answering.{by-refusal, by-no-refusal}
 use Rattle.job_layout.specs.declared.Job.{Job}
@@ -39,7 +39,7 @@ module _ {x : Reading} (s : List ℕ) (q : ProgramState) (w : WorldState) (c : �
     walk-by-refusals :
         walkAnswer s q w c
         ≡ refusedIf (leb (j .worlds) (w .0)) 14
-        (refusedIf (leb (columns (j .ends) (j .kinds)) c) 15
+        (refusedIf (leb (jobColumns j) c) 15
         (refusedIf (ltb (j .states) (q .0)) 16
         (walkAnswerOf (lampWalk (tablesOf s) (pair q w) c))))
     unfolding walkAnswer
@@ -51,7 +51,7 @@ module _ {x : Reading} (s : List ℕ) (q : ProgramState) (w : WorldState) (c : �
     pub walk-world-refused : j .worlds ≤ w .0 → answer.Refused 14 ≡ walkAnswer s q w c
     walk-world-refused w≥ = sym (walk-by-refusals ∙ rw (le-leb _ _ w≥))
 
-    module _ {n : ℕ} (w< : w .0 < j .worlds) (count : n ≡ columns (j .ends) (j .kinds)) where
+    module _ {n : ℕ} (w< : w .0 < j .worlds) (count : n ≡ jobColumns j) where
       -- The column is not below the number n of columns.
       pub walk-column-refused : n ≤ c → answer.Refused 15 ≡ walkAnswer s q w c
       walk-column-refused c≥ = sym (walk-by-refusals ∙ rw (lt-leb _ _ w<, sym count, le-leb _ _ c≥))

@@ -4,7 +4,7 @@ use Prim.Native.Nat.{ℕ}
 use lib.Dec.{leb, ltb}
 use Rattle.lamp_line.specs.declared.ProgramState.{ProgramState}
 use Rattle.lamp_line.specs.declared.WorldState.{WorldState}
-use Rattle.lamp_line.specs.Tables.{columns}
+use Rattle.lamp_line.specs.Tables.{columnCount}
 use Rattle.lamp_line.specs.Refusals.{Refusal, _when_, answerBy}
 use Rattle.lamp_line.specs.Run.{pair, Walk, ended, arrived, lampWalk}
 use Rattle.job_layout.specs.JobTables.{tablesOf}
@@ -17,7 +17,7 @@ use Rattle.lamp_walk.specs.declared.WalkAnswer.the-variants as answer
 abbrev pub walkRefusals : List ℕ → ProgramState → WorldState → ℕ → List Refusal
 walkRefusals s q w column =
     fileRefusals s
-    ++ (14 when leb (tablesOf s .worlds) (w .0)) ∷ (15 when leb (columns (tablesOf s .ends) (tablesOf s .kinds)) column)
+    ++ (14 when leb (tablesOf s .worlds) (w .0)) ∷ (15 when leb (columnCount (tablesOf s)) column)
     ∷ (16 when ltb (tablesOf s .states) (q .0)) ∷ []
 
 -- A walk as an answer.

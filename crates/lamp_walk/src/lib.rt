@@ -2,7 +2,7 @@
 // or to an ending, with the steps counted. `walk_lamp` is the operation; it asks nothing of its caller.
 ghost use mathlib.Core.Path.{_≡_};
 ghost use Prim.Native.Nat.{_+_, _≤_, _<_};
-ghost use Rattle.lamp_line.specs.Tables.{columns};
+ghost use Rattle.job_layout.specs.Layout.{jobColumns};
 ghost use Rattle.lamp_line.specs.Run.{judged, pair, ownSteps, act, lampWalk};
 ghost use Rattle.job_layout.specs.JobTables.{tablesOf};
 ghost use Rattle.job_file.specs.Reading.{Opened};
@@ -48,7 +48,7 @@ pub enum WalkAnswer {
 // The ending in state S, which the goal decides. It is for the crates above and not for users: it asks for the job that the reader
 // answered for this file, and for numbers within the tables.
 pub fn judge(file: &[u8], job: Job, world: WorldState, column: u8) -> Ending
-    requires { ⌜ Opened (now file) job × (world .0 < job .worlds) × (column < columns (job .ends) (job .kinds)) ⌝ }
+    requires { ⌜ Opened (now file) job × (world .0 < job .worlds) × (column < jobColumns job) ⌝ }
     ensures { λ r. ⌜ r ≡ judged (tablesOf (now (file .entry))) world column ⌝ }
 {
     if is_goal(file, job, world, column) {
@@ -59,7 +59,7 @@ pub fn judge(file: &[u8], job: Job, world: WorldState, column: u8) -> Ending
 
 // The action of a state that is not final.
 fn try_action(file: &[u8], job: Job, state: ProgramState, world: WorldState, column: u8) -> Acted
-    requires { ⌜ Opened (now file) job × (state .0 < job .states) × (world .0 < job .worlds) × (column < columns (job .ends) (job .kinds)) ⌝ }
+    requires { ⌜ Opened (now file) job × (state .0 < job .states) × (world .0 < job .worlds) × (column < jobColumns job) ⌝ }
     ensures { λ r. ⌜ moveOf r ≡ act (tablesOf (now (file .entry))) (pair state world) column ⌝ }
 {
     let action = plan_action(file, job, state);
@@ -86,7 +86,7 @@ pub fn one_action(
     world: WorldState,
     column: u8,
 ) -> Acted
-    requires { ⌜ Opened (now file) job × (state .0 ≤ job .states) × (world .0 < job .worlds) × (column < columns (job .ends) (job .kinds)) ⌝ }
+    requires { ⌜ Opened (now file) job × (state .0 ≤ job .states) × (world .0 < job .worlds) × (column < jobColumns job) ⌝ }
     ensures { λ r. ⌜ moveOf r ≡ act (tablesOf (now (file .entry))) (pair state world) column ⌝ }
 {
     if state.0 == job.states {
@@ -97,7 +97,7 @@ pub fn one_action(
 
 // The ending once S·W steps are counted at a lamp.
 fn spent(file: &[u8], job: Job, state: ProgramState, world: WorldState, column: u8) -> Ending
-    requires { ⌜ Opened (now file) job × (world .0 < job .worlds) × (column < columns (job .ends) (job .kinds)) ⌝ }
+    requires { ⌜ Opened (now file) job × (world .0 < job .worlds) × (column < jobColumns job) ⌝ }
     ensures { λ r. ⌜ r ≡ spentEnding (tablesOf (now (file .entry))) state world column ⌝ }
 {
     if state.0 == job.states {
@@ -122,7 +122,7 @@ pub fn walk_in_job(
     world: WorldState,
     column: u8,
 ) -> Walked
-    requires { ⌜ Opened (now file) job × (state .0 ≤ job .states) × (world .0 < job .worlds) × (column < columns (job .ends) (job .kinds)) ⌝ }
+    requires { ⌜ Opened (now file) job × (state .0 ≤ job .states) × (world .0 < job .worlds) × (column < jobColumns job) ⌝ }
     ensures { λ r. ⌜ walkOf r ≡ lampWalk (tablesOf (now (file .entry))) (pair state world) column ⌝ }
 {
     let most = job.states as u32 * job.worlds as u32;

@@ -14,6 +14,7 @@ use Rattle.lamp_line.specs.declared.ProgramState.{ProgramState}
 use Rattle.lamp_line.specs.declared.WorldState.{WorldState}
 use Rattle.lamp_line.specs.declared.Ending.{Ending}
 use Rattle.lamp_line.specs.Tables.{Tables, Line, lineOf, endKinds, lampColumn, columns, columnOf, column, Kinds, Fits}
+use Rattle.job_layout.specs.Layout.{jobColumns}
 use Rattle.lamp_line.specs.Refusals.{some-of}
 use Rattle.lamp_line.specs.Run.{Pair, pair, arrived, ran, lampWalk, along, run, limited}
 use Rattle.lamp_line.proofs.Columns.{lamp-column-in}
@@ -26,7 +27,7 @@ use Rattle.job_layout.specs.JobTables.{tablesBy, tablesOf}
 use Rattle.job_layout.specs.FileRefusals.{outside}
 use Rattle.head_refusals.proofs.HeadLaws.{neither}
 use Rattle.job_file.specs.Reading.{Opened}
-use Rattle.line_run.specs.RunAnswers.{lineWrong}
+use Rattle.line_run.specs.RunAnswers.{lineWrong, runAnswerOf}
 use Rattle.job_file.proofs.WellFormed.{tables-are, well-formed-by}
 use Rattle.job_tables.proofs.Ranges.{worlds-are, ends-are, first-is, well-formed}
 use Rattle.lamp_walk.specs.declared.Walked.{Walked}
@@ -34,7 +35,6 @@ use Rattle.lamp_walk.specs.declared.Walked.the-variants as walked
 use Rattle.lamp_walk.specs.inner.Walking.{walkOf}
 use Rattle.line_run.specs.declared.RunAnswer.{RunAnswer}
 use Rattle.line_run.specs.declared.RunAnswer.the-variants as answer
-use Rattle.line_run.specs.RunAnswers.{runAnswerOf}
 
 -- ---- lines of a job
 
@@ -159,7 +159,7 @@ module _ {s : List ℕ} {j : Job} {limit end : ℕ} {lamps₀ : List ℕ} {start
     running-kinds = running .fits .of-kinds
 
     -- The column at which the line goes on is one of the job's.
-    pub running-column-in : {c : ℕ} → c ≡ columnOf (j .ends) end rest → c < columns (j .ends) (j .kinds)
+    pub running-column-in : {c : ℕ} → c ≡ columnOf (j .ends) end rest → c < jobColumns j
     running-column-in is = rw is (column-is-below (tablesBy s j) (running .fits))
 
     -- The walk at the present lamp, or at the line's end.

@@ -2,7 +2,8 @@
 ghost use mathlib.Core.Path.{_≡_};
 ghost use mathlib.Core.Bool.{true};
 ghost use Prim.Native.Nat.{_≤_};
-ghost use Rattle.lamp_line.specs.Tables.{lineOf, columns, columnOf, Kinds, Fits};
+ghost use Rattle.lamp_line.specs.Tables.{lineOf, columnOf, Kinds, Fits};
+ghost use Rattle.job_layout.specs.Layout.{jobColumns};
 ghost use Rattle.lamp_line.specs.Refusals.{some-of};
 ghost use Rattle.lamp_line.specs.Run.{ran, run, limited};
 ghost use Rattle.job_layout.specs.JobTables.{tablesBy, tablesOf};
@@ -50,7 +51,7 @@ fn line_wrong(line: &[u8], end: u8, job: Job) -> bool
 
 // The column at which the rest of the line begins: that of its first lamp, or of the line's end.
 fn column_of(job: Job, rest: &[u8], end: u8) -> u8
-    requires { ⌜ (columns (job .ends) (job .kinds) ≤ 16) × Kinds (job .kinds) (now rest) ⌝ }
+    requires { ⌜ (jobColumns job ≤ 16) × Kinds (job .kinds) (now rest) ⌝ }
     ensures { λ r. ⌜ r ≡ columnOf (job .ends) end (now (rest .entry)) ⌝ }
 {
     if rest.len() == 0 {

@@ -10,7 +10,8 @@ use lib.ListN.{length, getD, set}
 use lib.Seq.{getD-set-same, getD-set-other}
 use Rattle.plans.specs.Execution.{Label, actionOf, resultOf}
 use Rattle.lamp_line.specs.declared.WorldState.{WorldState}
-use Rattle.lamp_line.specs.Tables.{Tables, worldState, columns, movesOn}
+use Rattle.lamp_line.specs.Tables.{Tables, worldState, movesOn, columnCount}
+use Rattle.job_layout.specs.Layout.{jobColumns}
 use Rattle.job_layout.specs.declared.Job.{Job}
 use Rattle.job_layout.specs.JobTables.{tablesOf}
 use Rattle.job_file.specs.Reading.{Opened}
@@ -53,13 +54,13 @@ pub staying-all :
 staying-all {m = m} {n = n} m≤ ≤m is those = let same : m ≡ n = omega arith in rw same at (those .stayed)
 
 -- Where the candidates are in world states of the job, so are those of each column.
-pub worlds-at : {j : Job} {sets : List ℕ} {c k : ℕ} → WorldsIn j sets → c < k → k ≡ columns (j .ends) (j .kinds) → InWorlds (getD sets c 0) (j .worlds)
+pub worlds-at : {j : Job} {sets : List ℕ} {c k : ℕ} → WorldsIn j sets → c < k → k ≡ jobColumns j → InWorlds (getD sets c 0) (j .worlds)
 worlds-at {c = c} within c< is = record { below = λ w has. within .below w c (record { is-column = omega arith; has = has }) }
 
 -- This is so of a column that the loop has still before it.
 pub staying-worlds :
     {t : Tables} {l : Label} {j : Job} {before after : List ℕ} {c k : ℕ} → Staying t l before after c → WorldsIn j before →
-    c < k → k ≡ columns (j .ends) (j .kinds) → InWorlds (getD after c 0) (j .worlds)
+    c < k → k ≡ jobColumns j → InWorlds (getD after c 0) (j .worlds)
 staying-worlds {c = c} those within c< is = rw (those .others c (omega arith)) (worlds-at within c< is)
 
 -- ---- the same word at each column
@@ -100,13 +101,13 @@ module _ {sets : List ℕ} {n : ℕ} (before : EmptyBelow sets n) where
       by c c< (no d) = before .empty c (omega arith)
 
   -- All columns: there is no candidate.
-  pub no-candidate : {j : Job} {k : ℕ} → k ≤ n → k ≡ columns (j .ends) (j .kinds) → NoneLeft j sets true
+  pub no-candidate : {j : Job} {k : ℕ} → k ≤ n → k ≡ jobColumns j → NoneLeft j sets true
   no-candidate all is w c held =
       false≢true (sym (none-in-zero (w .0)) ∙ (rw (before .empty c (omega (arith, held .is-column))) at (held .has)))
 
 -- A word that is not 0 holds one.
 pub some-candidate-left :
-    {j : Job} {k : ℕ} (sets : List ℕ) {c : ℕ} → c < k → k ≡ columns (j .ends) (j .kinds) → getD sets c 0 < 2 ^ 64 → getD sets c 0 ≢ 0 →
+    {j : Job} {k : ℕ} (sets : List ℕ) {c : ℕ} → c < k → k ≡ jobColumns j → getD sets c 0 < 2 ^ 64 → getD sets c 0 ≢ 0 →
     NoneLeft j sets false
 some-candidate-left sets {c} c< is fits other =
     let (w, has) = some-bit fits other in
@@ -116,21 +117,21 @@ some-candidate-left sets {c} c< is fits other =
 
 module _ (s : List ℕ) {j : Job} (opened : Opened s j) where
   -- There are at most sixteen columns, whose number the code has counted.
-  pub column-count-few : {k : ℕ} → k ≡ columns (j .ends) (j .kinds) → k ≤ 16
+  pub column-count-few : {k : ℕ} → k ≡ jobColumns j → k ≤ 16
   column-count-few is = omega (arith, columns-few s j opened)
 
   -- A column of the tables is one of the job's.
-  job-column : {c : ℕ} → c < columns (tablesOf s .ends) (tablesOf s .kinds) → c < columns (j .ends) (j .kinds)
+  job-column : {c : ℕ} → c < columnCount (tablesOf s) → c < jobColumns j
   job-column c< = rw (kinds-are s j opened, ends-are s j opened) c<
 
   -- And the other way round.
-  table-column : {c : ℕ} → c < columns (j .ends) (j .kinds) → c < columns (tablesOf s .ends) (tablesOf s .kinds)
+  table-column : {c : ℕ} → c < jobColumns j → c < columnCount (tablesOf s)
   table-column c< = rw (← kinds-are s j opened, ← ends-are s j opened) c<
 
   -- The same set at every column.
   everywhere :
       {Held : Candidates} {sets : List ℕ} {word n : ℕ} →
-      ((w : WorldState) (c : ℕ) → Held w c ↔ (Has word w × (c < columns (tablesOf s .ends) (tablesOf s .kinds)))) → Filled sets word n → 16 ≤ n →
+      ((w : WorldState) (c : ℕ) → Held w c ↔ (Has word w × (c < columnCount (tablesOf s)))) → Filled sets word n → 16 ≤ n →
       HoldJust j Held sets
   everywhere {Held} {sets} {word} {n} is filled enough =
       record {
@@ -142,7 +143,7 @@ module _ (s : List ℕ) {j : Job} (opened : Opened s j) where
         );
       }
     where
-      same : {c : ℕ} → c < columns (j .ends) (j .kinds) → getD sets c 0 ≡ word
+      same : {c : ℕ} → c < jobColumns j → getD sets c 0 ≡ word
       same {c} c< = filled .same c (omega (arith, columns-few s j opened))
 
   -- Before the first entry.
@@ -181,7 +182,7 @@ module _ (s : List ℕ) {j : Job} (opened : Opened s j) where
   module _ (l : Label) {before : List ℕ} {b : Bool} (read : b ≡ movesOn (tablesOf s) (actionOf l)) where
     -- It moves on.
     pub passed-held :
-        {after : List ℕ} {word n : ℕ} → b ≡ true → Adds (Gathered (LedAt (tablesOf s) l before) (columns (j .ends) (j .kinds))) 0 word →
+        {after : List ℕ} {word n : ℕ} → b ≡ true → Adds (Gathered (LedAt (tablesOf s) l before) (jobColumns j)) 0 word →
         Filled after word n → 16 ≤ n → HoldJust j (NextCandidates (tablesOf s) (Holds j before) l) after
     passed-held moving added =
         everywhere (λ w c. (
@@ -207,7 +208,7 @@ module _ (s : List ℕ) {j : Job} (opened : Opened s j) where
 
     -- It stays.
     pub stayed-held :
-        {after : List ℕ} → b ≡ false → Stayed (tablesOf s) l before after (columns (j .ends) (j .kinds)) →
+        {after : List ℕ} → b ≡ false → Stayed (tablesOf s) l before after (jobColumns j) →
         HoldJust j (NextCandidates (tablesOf s) (Holds j before) l) after
     stayed-held {after} staying stayed =
         record {

@@ -6,6 +6,7 @@
 ghost use Prim.Native.Nat.{_≤_, _<_};
 ghost use lib.ListN.{length};
 ghost use Rattle.lamp_line.specs.Tables.{columns};
+ghost use Rattle.job_layout.specs.Layout.{jobColumns};
 ghost use Rattle.job_layout.specs.JobTables.{tablesOf};
 ghost use Rattle.job_file.specs.Reading.{Opened};
 ghost use Rattle.log_laws.specs.inner.Candidates.{FirstCandidates, NextCandidates};
@@ -70,7 +71,7 @@ pub fn first_candidates(file: &[u8], job: Job, sets: &mut [u64])
 
 // `to`, with the world state to which the entry leads from this one at the column, if it leads anywhere.
 fn add_next(file: &[u8], job: Job, entry: LogEntry, column: u8, world: WorldState, to: u64) -> u64
-    requires { ⌜ Opened (now file) job × EntryInJob job entry × (column < columns (job .ends) (job .kinds)) × (world .0 < job .worlds) ⌝ }
+    requires { ⌜ Opened (now file) job × EntryInJob job entry × (column < jobColumns job) × (world .0 < job .worlds) ⌝ }
     ensures { λ r. ⌜ Adds (Led (tablesOf (now (file .entry))) (labelOf entry) column (world .0)) to r ⌝ }
 {
     let cell = read_cell_bytes(file, job, entry.action, world, column);
@@ -81,7 +82,7 @@ fn add_next(file: &[u8], job: Job, entry: LogEntry, column: u8, world: WorldStat
 // `to`, with the world states to which the entry leads from those of the set at the column. The loop goes from one world state of the
 // set to the next.
 fn add_all_next(file: &[u8], job: Job, entry: LogEntry, column: u8, set: u64, to: u64) -> u64
-    requires { ⌜ Opened (now file) job × EntryInJob job entry × (column < columns (job .ends) (job .kinds)) × InWorlds set (job .worlds) ⌝ }
+    requires { ⌜ Opened (now file) job × EntryInJob job entry × (column < jobColumns job) × InWorlds set (job .worlds) ⌝ }
     ensures { λ r. ⌜ Adds (LedFrom (tablesOf (now (file .entry))) (labelOf entry) column set) to r ⌝ }
 {
     let mut rest = set;
@@ -97,7 +98,7 @@ fn add_all_next(file: &[u8], job: Job, entry: LogEntry, column: u8, set: u64, to
 // The candidates after an entry that stays at the lamp: those of each column for themselves.
 fn stay(file: &[u8], job: Job, entry: LogEntry, sets: &mut [u64])
     requires { ⌜ Opened (now file) job × EntryInJob job entry × WorldsIn job (now sets) × (16 ≤ length (now sets)) ⌝ }
-    ensures { λ _. ⌜ Stayed (tablesOf (now (file .entry))) (labelOf entry) (now (sets .entry)) (now (sets .exit)) (columns (job .ends) (job .kinds)) ⌝ }
+    ensures { λ _. ⌜ Stayed (tablesOf (now (file .entry))) (labelOf entry) (now (sets .entry)) (now (sets .exit)) (jobColumns job) ⌝ }
 {
     let columns = column_count(job);
     let mut c: u8 = 0;
@@ -111,7 +112,7 @@ fn stay(file: &[u8], job: Job, entry: LogEntry, sets: &mut [u64])
 // The world states after an entry that moves on, from the candidates of all columns together.
 fn pass(file: &[u8], job: Job, entry: LogEntry, sets: &[u64]) -> u64
     requires { ⌜ Opened (now file) job × EntryInJob job entry × WorldsIn job (now sets) × (16 ≤ length (now sets)) ⌝ }
-    ensures { λ r. ⌜ Adds (Gathered (LedAt (tablesOf (now (file .entry))) (labelOf entry) (now (sets .entry))) (columns (job .ends) (job .kinds))) 0 r ⌝ }
+    ensures { λ r. ⌜ Adds (Gathered (LedAt (tablesOf (now (file .entry))) (labelOf entry) (now (sets .entry))) (jobColumns job)) 0 r ⌝ }
 {
     let columns = column_count(job);
     let mut to: u64 = 0;
@@ -139,7 +140,7 @@ pub fn advance(file: &[u8], job: Job, entry: LogEntry, sets: &mut [u64])
 
 // There is no candidate.
 pub fn none_left(sets: &[u64], job: Job) -> bool
-    requires { ⌜ (columns (job .ends) (job .kinds) ≤ 16) × (16 ≤ length (now sets)) ⌝ }
+    requires { ⌜ (jobColumns job ≤ 16) × (16 ≤ length (now sets)) ⌝ }
     ensures { λ r. ⌜ NoneLeft job (now (sets .entry)) r ⌝ }
 {
     let columns = column_count(job);

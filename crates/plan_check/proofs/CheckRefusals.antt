@@ -15,11 +15,12 @@ use Rattle.job_layout.specs.declared.Job.{Job}
 use Rattle.job_layout.specs.JobTables.{tablesBy, tablesOf}
 use Rattle.job_file.specs.declared.Reading.the-variants as reading
 use Rattle.job_file.specs.Reading.{readingOf, Opened}
-use Rattle.plan_check.specs.CheckAnswers.{checkRefusals}
+use Rattle.plan_check.specs.CheckAnswers.{checkRefusals, Lent, CheckedBy}
 use Rattle.job_file.proofs.Opening.{file-refused, file-opened}
 use Rattle.job_file.proofs.WellFormed.{tables-are, well-formed-by}
 use Rattle.job_tables.proofs.Ranges.{states-are, worlds-are}
-use Rattle.lamp_line.specs.Tables.{Tables, columns}
+use Rattle.lamp_line.specs.Tables.{Tables}
+use Rattle.job_layout.specs.Layout.{jobColumns}
 use Rattle.lamp_line.specs.Check.{Right}
 use Rattle.lamp_line.specs.inner.WellFormed.{WellFormed}
 use Rattle.lamp_line.proofs.Answering.{refusal-is, by-refusal, by-no-refusal}
@@ -34,7 +35,6 @@ use Rattle.line_naming.specs.inner.Finding.{Room, Finds}
 use Rattle.run_laws.proofs.Pairs.{pairs-few}
 use Rattle.plan_check.specs.declared.Outcome.{Outcome}
 use Rattle.plan_check.specs.declared.Outcome.the-variants as outcome
-use Rattle.plan_check.specs.CheckAnswers.{Lent, CheckedBy}
 use Rattle.plan_check.specs.inner.Outcomes.{outcomeOf, OutcomeRight, CheckedLines}
 
 -- ---- sizes
@@ -142,7 +142,7 @@ module _ {s : List ℕ} {lent : Lent} {j : Job} (enough : Enough s lent j) where
       }
 
   -- The memory has an entry for each pair at each column. The code computes their number in its own way.
-  module _ {count : ℕ} (e : count ≡ columns (j .ends) (j .kinds)) where
+  module _ {count : ℕ} (e : count ≡ jobColumns j) where
     size-is : (j .states * j .worlds + j .worlds) * count ≡ memorySize (tablesBy s j)
     size-is = mul-comm (j .states * j .worlds + j .worlds) count ∙ ap₂ (λ (m n : ℕ). m * n) e (sym (all-pairs (j .states) (j .worlds)))
 

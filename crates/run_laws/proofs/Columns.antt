@@ -5,18 +5,18 @@ use mathlib.Core.List.{List, [], _∷_}
 use Prim.Native.Nat.{ℕ, _-_, _<_}
 use native.Mathlib.Decide.{decLt}
 use native.Mathlib.Omega.{arith}
-use Rattle.lamp_line.specs.Tables.{Tables, Line, Kinds, Fits, endKinds, lampColumn, columns, column, passed, lineOf}
+use Rattle.lamp_line.specs.Tables.{Tables, Line, Kinds, Fits, endKinds, lampColumn, columns, column, passed, lineOf, columnCount}
 use Rattle.lamp_line.proofs.Columns.{end-column-in, lamp-column-in}
 
 module _ (t : Tables) where
   column-below :
-      (end : ℕ) (lamps : List ℕ) → end < endKinds (t .ends) → Kinds (t .kinds) lamps → column t (lineOf end lamps) < columns (t .ends) (t .kinds)
+      (end : ℕ) (lamps : List ℕ) → end < endKinds (t .ends) → Kinds (t .kinds) lamps → column t (lineOf end lamps) < columnCount t
   unfolding Kinds
   column-below end [] e k = end-column-in (t .ends) (t .kinds) end e
   column-below end (kind ∷ lamps) e k = lamp-column-in (t .ends) (t .kinds) kind (k .1)
 
   -- A line of the job is at one of the columns.
-  pub column-is-below : {line : Line} → Fits t line → column t line < columns (t .ends) (t .kinds)
+  pub column-is-below : {line : Line} → Fits t line → column t line < columnCount t
   column-is-below {line} fits = column-below (line .end) (line .lamps) (fits .ended) (fits .of-kinds)
 
   -- Before a line there is a lamp, whose column is not an end's.
@@ -26,7 +26,7 @@ module _ (t : Tables) where
     pub is-column : column t line ≡ c
     pub is-rest : passed line ≡ rest
 
-  pub lamp-before : {rest : Line} {c : ℕ} → Fits t rest → c < columns (t .ends) (t .kinds) → ¬ (c < endKinds (t .ends)) → LampBefore rest c
+  pub lamp-before : {rest : Line} {c : ℕ} → Fits t rest → c < columnCount t → ¬ (c < endKinds (t .ends)) → LampBefore rest c
   unfolding endKinds lampColumn columns Kinds
   lamp-before {rest} {c} fits c< not-end =
       record {
@@ -52,11 +52,11 @@ module _ (t : Tables) where
   some-end = omega arith
 
   -- There is a column.
-  pub some-column : 0 < columns (t .ends) (t .kinds)
+  pub some-column : 0 < columnCount t
   some-column = column-is-below (empty-line some-end)
 
   -- Each column is that of some line.
-  pub line-at : {c : ℕ} → c < columns (t .ends) (t .kinds) → LineAt c
+  pub line-at : {c : ℕ} → c < columnCount t → LineAt c
   line-at {c} c< = by (decLt c (endKinds (t .ends)))
     where
       by : Dec (c < endKinds (t .ends)) → LineAt c

@@ -3,9 +3,8 @@
 use mathlib.Core.List.{List}
 use Prim.Native.Nat.{ℕ, _+_, _≤_}
 use lib.ListN.{length}
-use Rattle.lamp_line.specs.Tables.{columns}
+use Rattle.job_layout.specs.Layout.{jobColumns, marksLength, cellsLength, startsLength, goalLength, planLength}
 use Rattle.job_layout.specs.declared.Job.{Job}
-use Rattle.job_layout.specs.Layout.{marksLength, cellsLength, startsLength, goalLength, planLength}
 
 pub record Laid (s : List ℕ) (j : Job) : Type 0 where
   pub actions-range : (1 ≤ j .actions) × (j .actions ≤ 16)
@@ -14,7 +13,7 @@ pub record Laid (s : List ℕ) (j : Job) : Type 0 where
   pub results-range : (1 ≤ j .results) × (j .results ≤ 8)
   pub states-range : j .states ≤ 64
   pub first-range : j .first .0 ≤ j .states
-  pub columns-range : columns (j .ends) (j .kinds) ≤ 16
+  pub columns-range : jobColumns j ≤ 16
   pub marks-in : j .marks .offset + marksLength j ≤ length s
   pub cells-in : j .cells .offset + cellsLength j ≤ length s
   pub starts-in : j .starts .offset + startsLength j ≤ length s

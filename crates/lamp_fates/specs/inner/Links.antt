@@ -5,7 +5,7 @@ use mathlib.Core.Logic.{_⊎_}
 use mathlib.Core.List.{List}
 use Prim.Native.Nat.{ℕ, _+_, _≤_, _<_}
 use lib.ListN.{length}
-use Rattle.lamp_line.specs.Tables.{Tables, columns}
+use Rattle.lamp_line.specs.Tables.{Tables, columnCount}
 use Rattle.lamp_line.specs.inner.WellFormed.{WellFormed}
 use Rattle.lamp_line.specs.Run.{Pair, stays, lampWalk}
 use Rattle.run_laws.specs.inner.Pairs.{InRange, pairNumber}
@@ -17,7 +17,7 @@ module _ (t : Tables) (first : Pair) (column : ℕ) where
   pub record Asked : Type 0 where
     pub well-formed : WellFormed t
     pub in-range : InRange t first
-    pub column-in : column < columns (t .ends) (t .kinds)
+    pub column-in : column < columnCount t
 
   -- i actions lead from the first pair to p, and all of them stay at the lamp.
   abbrev pub After : ℕ → Pair → Type 0
@@ -46,7 +46,7 @@ module _ (t : Tables) (first : Pair) (column : ℕ) where
     pub room : memorySize t ≤ length memory
     pub link : (i : ℕ) (p : Pair) → from ≤ i → i < below → After i p → Link i (remembered t memory p column)
     pub once : (i j : ℕ) (p : Pair) → from ≤ i → i < j → j < below → After i p → After j p → ⊥
-    pub others : (p : Pair) (at : ℕ) → InRange t p → at < columns (t .ends) (t .kinds) → Stands from below p at (remembered t memory p at)
+    pub others : (p : Pair) (at : ℕ) → InRange t p → at < columnCount t → Stands from below p at (remembered t memory p at)
 
   -- The walk has found the fate of its first pair, which has this entry, and has left links from the first pair on.
   pub record WalkedTo (entry : ℕ) (memory : List ℕ) : Type 0 where

@@ -8,7 +8,7 @@ use lib.Dec.{eqb, ltb}
 use lib.ListN.{length, getD}
 use Rattle.lamp_line.specs.declared.FailureKind.the-variants.{NotLegal, NoBranch, Circles, GoalFalse}
 use Rattle.lamp_line.specs.declared.Ending.the-variants.{Goal, Failure}
-use Rattle.lamp_line.specs.Tables.{Tables, programState, worldState, columns}
+use Rattle.lamp_line.specs.Tables.{Tables, programState, worldState, columnCount}
 use Rattle.lamp_line.specs.Endings.{kindNumber}
 use Rattle.lamp_line.specs.Run.{Pair, pair, Walk, ended, arrived, lampWalk}
 use Rattle.run_laws.specs.inner.Pairs.{InRange, pairs, pairNumber}
@@ -50,7 +50,7 @@ fateFrom entry =
 module _ (t : Tables) where
   -- How many entries the memory of the tables has.
   abbrev pub memorySize : ℕ
-  memorySize = columns (t .ends) (t .kinds) * pairs t
+  memorySize = columnCount t * pairs t
 
   -- The place of the entry of a pair at a column. The entries are ordered by column first: a walk stays at one column, so the place
   -- of each of its pairs is the pair's number plus one fixed number.
@@ -69,7 +69,7 @@ module _ (t : Tables) where
   pub record Memory (memory : List ℕ) : Type 0 where
     pub room : memorySize ≤ length memory
     pub unknown-or-right :
-        (p : Pair) (column : ℕ) → InRange t p → column < columns (t .ends) (t .kinds) → UnknownOrRight p column (remembered memory p column)
+        (p : Pair) (column : ℕ) → InRange t p → column < columnCount t → UnknownOrRight p column (remembered memory p column)
 
   -- What a look-up gives: it answers the fate r of the pair at the column, and leaves a memory.
   pub record LookedUp (p : Pair) (column : ℕ) (r : Fate) (memory′ : List ℕ) : Type 0 where

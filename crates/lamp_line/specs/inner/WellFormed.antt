@@ -10,7 +10,7 @@ use Rattle.plans.specs.Plan.{Action, Result}
 use Rattle.lamp_line.specs.declared.ProgramState.{ProgramState}
 use Rattle.lamp_line.specs.declared.WorldState.{WorldState}
 use Rattle.lamp_line.specs.Lists.{_∈_}
-use Rattle.lamp_line.specs.Tables.{outcome, Tables, movesOn, endKinds, columns}
+use Rattle.lamp_line.specs.Tables.{outcome, Tables, movesOn, endKinds, columnCount}
 
 pub record WellFormed (t : Tables) : Type 0 where
   pub actions-range : (1 ≤ t .actions) × (t .actions ≤ 16)
@@ -19,7 +19,7 @@ pub record WellFormed (t : Tables) : Type 0 where
   pub results-range : (1 ≤ t .results) × (t .results ≤ 8)
   pub states-range : t .states ≤ 64
   pub first-range : t .first .0 ≤ t .states
-  pub columns-range : columns (t .ends) (t .kinds) ≤ 16
+  pub columns-range : columnCount t ≤ 16
   pub mark-range : (a : Action) → t .mark a ≤ 1
   -- a cell has at most one outcome
   pub single : (a : Action) (w : WorldState) (c : ℕ) → length (t .cell a w c) ≤ 1

@@ -4,7 +4,7 @@ use mathlib.Core.List.{List}
 use mathlib.Core.Logic.{_≢_}
 use mathlib.Core.Bool.{false}
 use Prim.Native.Nat.{ℕ, _+_, _≤_, _<_}
-use Rattle.lamp_line.specs.Tables.{Tables, columns}
+use Rattle.lamp_line.specs.Tables.{Tables, columnCount}
 use Rattle.lamp_line.specs.Run.{Pair, pair}
 use Rattle.lamp_line.specs.declared.FailureKind.{FailureKind}
 use Rattle.job_layout.specs.declared.Job.{Job}
@@ -43,7 +43,7 @@ pub data Going (t : Tables) (E : List Entry) (member kind end y column : ℕ) : 
 -- The line goes on so with the pair p, which is one of the tables.
 pub record Goes (t : Tables) (E : List Entry) (member kind end : ℕ) (p : Pair) (column : ℕ) : Type 0 where
   pub range : InRange t p
-  pub column-range : column < columns (t .ends) (t .kinds)
+  pub column-range : column < columnCount t
   pub going : Going t E member kind end (pairNumber (t .worlds) p) column
 
 -- What the answer on the last stretch says of trying the line.

@@ -9,7 +9,8 @@ use lib.ListN.{getD}
 use Rattle.plans.specs.Execution.{Label, did, actionOf, resultOf}
 use Rattle.lamp_line.specs.declared.WorldState.{WorldState}
 use Rattle.lamp_line.specs.Lists.{_∈_}
-use Rattle.lamp_line.specs.Tables.{outcome, Tables, worldState, columns}
+use Rattle.lamp_line.specs.Tables.{outcome, Tables, worldState}
+use Rattle.job_layout.specs.Layout.{jobColumns}
 use Rattle.word_bits.specs.Bits.{hasBit}
 use Rattle.job_layout.specs.declared.Job.{Job}
 use Rattle.log_laws.specs.inner.Candidates.{Candidates}
@@ -34,7 +35,7 @@ pub record InWorlds (set worlds : ℕ) : Type 0 where
 
 -- The candidates that these words hold: at each column of the tables, the world states of its word.
 pub record Holds (j : Job) (sets : List ℕ) (w : WorldState) (c : ℕ) : Type 0 where
-  pub is-column : c < columns (j .ends) (j .kinds)
+  pub is-column : c < jobColumns j
   pub has : Has (getD sets c 0) w
 
 -- They are in world states of the job.

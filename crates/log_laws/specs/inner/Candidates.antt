@@ -10,7 +10,7 @@ use Rattle.plans.specs.Execution.{Label, actionOf, resultOf}
 use Rattle.lamp_line.specs.declared.ProgramState.{ProgramState}
 use Rattle.lamp_line.specs.declared.WorldState.{WorldState}
 use Rattle.lamp_line.specs.Lists.{_∈_}
-use Rattle.lamp_line.specs.Tables.{outcome, Tables, Line, Fits, Beginning, columns, column, final, movesOn}
+use Rattle.lamp_line.specs.Tables.{outcome, Tables, Line, Fits, Beginning, column, final, movesOn, columnCount}
 use Rattle.lamp_line.specs.Check.{situation}
 use Rattle.lamp_line.specs.Executions.{Execution}
 
@@ -28,7 +28,7 @@ module _ (t : Tables) where
 
   -- Before any entry: the marked starts, at every column.
   abbrev pub FirstCandidates : Candidates
-  FirstCandidates w c = (t .start w ≡ true) × (c < columns (t .ends) (t .kinds))
+  FirstCandidates w c = (t .start w ≡ true) × (c < columnCount t)
 
   -- After one more entry: where its action leads with its result from some candidate. An action that moves on arrives at any column;
   -- any other stays at the candidate's.
@@ -37,7 +37,7 @@ module _ (t : Tables) where
     pub at : ℕ
     pub candidate : From world at
     pub leads : outcome w (resultOf l) ∈ t .cell (actionOf l) world at
-    pub is-column : c < columns (t .ends) (t .kinds)
+    pub is-column : c < columnCount t
     pub stays : movesOn t (actionOf l) ≡ false → c ≡ at
 
   -- What an entry needs to be made in the program state q from one of these candidates, and to lead to q′ and to w at column c.
@@ -66,6 +66,6 @@ module _ (t : Tables) where
     -- No execution that gives the log is anywhere else.
     pub all : {q′ : ProgramState} {w : WorldState} {rest : Line} → LeadsTo log q′ w rest → (q′ ≡ q) × Held w (column t rest)
     -- Candidates are at columns of the tables.
-    pub at-column : {w : WorldState} {c : ℕ} → Held w c → c < columns (t .ends) (t .kinds)
+    pub at-column : {w : WorldState} {c : ℕ} → Held w c → c < columnCount t
     -- There is a candidate.
     pub some-candidate : (w : WorldState) × (c : ℕ) × Held w c
