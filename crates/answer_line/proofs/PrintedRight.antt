@@ -31,10 +31,10 @@ own-refusals : (s : List ℕ) → refusal (fileRefusals s) ≡ none →
 unfolding refusal
 own-refusals s e =
     let wf = sound s (head s) (opened-unrefused s [] e) .well-formed in
-    let few = product-le 64 64 (tablesOf s .states) (tablesOf s .worlds) (wf .states-range) (wf .worlds-range .1) in
+    let few = product-le 64 64 (tablesOf s .states) (tablesOf s .worlds) (wf .formed .states-range) (wf .formed .worlds-range .1) in
     rw (
       le-ltb 4097 (tablesOf s .states * tablesOf s .worlds + 1) (omega (arith, few)),
-      le-ltb 4160 ((tablesOf s .states + 1) * tablesOf s .worlds) (omega (arith, few, wf .worlds-range .1)),
+      le-ltb 4160 ((tablesOf s .states + 1) * tablesOf s .worlds) (omega (arith, few, wf .formed .worlds-range .1)),
     ) refl
 
 large-enough : (s : List ℕ) → refusal (checkRefusals s 4097 4160 65) ≡ refusal (fileRefusals s)

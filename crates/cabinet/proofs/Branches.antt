@@ -18,4 +18,4 @@ no-branch-outside s j opened q r h = by (tablesOf s .target q r) refl
   where
     by : (o : Option ProgramState) → tablesOf s .target q r ≡ o → none ≡ o
     by none e = refl
-    by (some q′) e = absurd (omega (arith, h, results-are s j opened, well-formed s j opened .target-range q q′ r e .0))
+    by (some q′) e = absurd (omega (arith, h, results-are s j opened, well-formed s j opened .formed .target-range q q′ r e .0))

@@ -49,7 +49,7 @@ module _ (t : Tables) (wf : WellFormed t) where
   pub begins-within : {start : WorldState} {line : Line} → Beginning t start line → WithinJob t (t .first) (situation start line)
   begins-within {start = start} of =
       record {
-        in-range = record { state-range = wf .first-range; world-range = wf .start-range start (of .marked) };
+        in-range = record { state-range = wf .formed .first-range; world-range = wf .formed .start-range start (of .marked) };
         end-range = of .fits .ended;
       }
 

@@ -44,7 +44,7 @@ module _ (t : Tables) where
   module _ (wf : WellFormed t) where
     -- The pair at a marked start is a pair of the tables.
     pub start-in-range : (w : WorldState) → t .start w ≡ true → InRange t (pair (t .first) w)
-    start-in-range w marked = record { state-range = wf .first-range; world-range = wf .start-range w marked }
+    start-in-range w marked = record { state-range = wf .formed .first-range; world-range = wf .formed .start-range w marked }
 
     -- Each start has one pair, which no other start has, and each pair has one fate.
     pub plain : Plain graph
@@ -54,7 +54,7 @@ module _ (t : Tables) where
           start-own = λ s s′ x (m, e) (m′, e′).
               let same =
               pair-number-injective (t .worlds) (pair (t .first) (worldState s)) (pair (t .first) (worldState s′))
-              (wf .start-range (worldState s) m) (wf .start-range (worldState s′) m′) (sym e ∙ e′) in
+              (wf .formed .start-range (worldState s) m) (wf .formed .start-range (worldState s′) m′) (sym e ∙ e′) in
               ap (λ (p : Pair). p .world .0) same;
           to-one = λ x c y y′ e e′. (cc);
           bad-one = λ x c. fails-once x (lampColumn (t .ends) c);

@@ -220,7 +220,7 @@ module _ (t : Tables) where
     unfolding Right
     first-right E a b zero m n w e kind (taken, is-b, is-n) le first =
         least-right t wf kind w e []
-        (empty-least taken (λ s x (marked, is). subst (λ (i : ℕ). s < i) (sym is-b) (wf .start-range (worldState s) marked)) first)
+        (empty-least taken (λ s x (marked, is). subst (λ (i : ℕ). s < i) (sym is-b) (wf .formed .start-range (worldState s) marked)) first)
     first-right E a b (suc k) m n w e kind sweep le first =
         least-right t wf kind _ e _ (sweep-least sweep (record { low = omega arith; high = le }) first)
 

@@ -96,10 +96,10 @@ module _ (t : Tables) where
     -- All starts are taken, and there is one: their group is tried with the first kind.
     starts-stand : (E : List Entry) → Stage t E 0 (t .worlds) 0 (t .worlds) 0 → Stands E 0
     starts-stand E (taken, is-b, is-n) =
-        let (w, marked) = wf .some-start in
-        let known = taken .roots (w .0) (startNode t (w .0)) (wf .start-range w marked) (marked, refl) in
+        let (w, marked) = wf .formed .some-start in
+        let known = taken .roots (w .0) (startNode t (w .0)) (wf .formed .start-range w marked) (marked, refl) in
         let some : 0 < length E = omega (arith, known .there) in
-        at-group some (starts-done taken some (λ s x (m, e). wf .start-range (worldState s) m))
+        at-group some (starts-done taken some (λ s x (m, e). wf .formed .start-range (worldState s) m))
 
     -- The answer of the search is right.
     pub verdict-right : Right t (verdictOf t)

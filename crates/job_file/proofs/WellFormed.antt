@@ -188,22 +188,24 @@ module _ (s : List ℕ) (j : Job) where
     tables-well-formed : WellFormed (tablesBy s j)
     tables-well-formed =
         record {
-          actions-range = laid .actions-range;
-          worlds-range = laid .worlds-range;
-          kinds-range = laid .kinds-range;
-          results-range = laid .results-range;
-          states-range = laid .states-range;
-          first-range = laid .first-range;
-          columns-range = laid .columns-range;
-          mark-range = mark-range;
+          formed = record {
+            actions-range = laid .actions-range;
+            worlds-range = laid .worlds-range;
+            kinds-range = laid .kinds-range;
+            results-range = laid .results-range;
+            states-range = laid .states-range;
+            first-range = laid .first-range;
+            columns-range = laid .columns-range;
+            mark-range = mark-range;
+            next-range = next-range;
+            result-range = result-range;
+            end-stays = end-stays;
+            start-range = λ w set. ltb-true _ _ (and-eq-true-iff _ _ .0 set .0);
+            some-start = some-start;
+            action-range = action-range;
+            target-range = target-range;
+          };
           single = single;
-          next-range = next-range;
-          result-range = result-range;
-          end-stays = end-stays;
-          start-range = λ w set. ltb-true _ _ (and-eq-true-iff _ _ .0 set .0);
-          some-start = some-start;
-          action-range = action-range;
-          target-range = target-range;
         }
 
 -- ---- the law

@@ -63,11 +63,11 @@ module _ (s : List ℕ) (j : Job) (opened : Opened s j) where
   pub action-below : (q : ProgramState) (a : Action) → q .0 < j .states → a ≡ tablesOf s .action q → a < j .actions
   action-below q a q< e =
       rw e (subst (λ (n : ℕ). tablesOf s .action q < n) (sym actions-are)
-      (well-formed .action-range q (subst (λ (n : ℕ). q .0 < n) states-are q<)))
+      (well-formed .formed .action-range q (subst (λ (n : ℕ). q .0 < n) states-are q<)))
 
   -- The result of a legal cell is below R.
   pub result-below :
       (a : Action) (w : WorldState) (c : ℕ) {cell : Cell} {w′ : WorldState} {r : Result} →
       outcomesOf cell ≡ tablesOf s .cell a w c → cell ≡ Legal w′ r → r < j .results
   result-below a w c {w′ = w′} {r = r} read legal =
-      rw results-are (well-formed .result-range a w w′ c r (rw (← read, legal) (first-in (outcome w′ r))))
+      rw results-are (well-formed .formed .result-range a w w′ c r (rw (← read, legal) (first-in (outcome w′ r))))

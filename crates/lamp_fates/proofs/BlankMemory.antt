@@ -30,4 +30,4 @@ blank-memory t n enough =
 
 -- There are at most 16 columns, each with an entry for every pair.
 pub entries-most : {t : Tables} → WellFormed t → memorySize t ≤ 66560
-entries-most {t} wf = product-le 16 4160 (columnCount t) (pairs t) (wf .columns-range) (pairs-few wf)
+entries-most {t} wf = product-le 16 4160 (columnCount t) (pairs t) (wf .formed .columns-range) (pairs-few wf)

@@ -60,10 +60,10 @@ kind-small GoalFalse = omega arith
 module _ (t : Tables) (wf : WellFormed t) where
   -- The code of a pair of the tables is small.
   code-small : (p : Pair) → InRange t p → pairCode p < 4160
-  code-small p range = omega (arith, range .state-range, range .world-range, wf .states-range, wf .worlds-range .1)
+  code-small p range = omega (arith, range .state-range, range .world-range, wf .formed .states-range, wf .formed .worlds-range .1)
 
   world-small : (p : Pair) → InRange t p → p .world .0 < 64
-  world-small p range = omega (arith, range .world-range, wf .worlds-range .1)
+  world-small p range = omega (arith, range .world-range, wf .formed .worlds-range .1)
 
   module _ (p : Pair) (column : ℕ) where
     -- The entry of a fate is no link.

@@ -54,7 +54,7 @@ module _
 
     -- It has at most 4,097 lamps.
     pub lamps-few : lamps ≤ 4097
-    lamps-few = line-fits (omega (arith, product-le 64 64 (t .states) (t .worlds) (wf .states-range) (wf .worlds-range .1)))
+    lamps-few = line-fits (omega (arith, product-le 64 64 (t .states) (t .worlds) (wf .formed .states-range) (wf .formed .worlds-range .1)))
 
     -- The precondition of the function that writes the line.
     pub writable :

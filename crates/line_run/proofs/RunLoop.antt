@@ -141,8 +141,8 @@ module _ {s : List ℕ} {j : Job} {limit end : ℕ} {lamps₀ : List ℕ} {start
         within = omega arith;
         in-range =
             record {
-              state-range = well-formed-by s j opened .first-range;
-              world-range = rw (worlds-are s j opened) (well-formed s j opened .start-range start marked);
+              state-range = well-formed-by s j opened .formed .first-range;
+              world-range = rw (worlds-are s j opened) (well-formed s j opened .formed .start-range start marked);
             };
         fits = fits;
         owes = run-owes-start (tablesOf s) end lamps₀ (pair (j .first) start);

@@ -29,7 +29,7 @@ unmarked-is : (t : Tables) → WellFormed t → (start : WorldState) → startUn
 unmarked-is t wf start = by (t .start start) refl
   where
     by : (b : Bool) → t .start start ≡ b → (leb (t .worlds) (start .0) || not b) ≡ not b
-    by true e = rw (lt-leb _ _ (wf .start-range start e))
+    by true e = rw (lt-leb _ _ (wf .formed .start-range start e))
     by false e = or-true (leb (t .worlds) (start .0))
 
 abbrev refusedIf : Bool → ℕ → RunAnswer → RunAnswer

@@ -48,7 +48,7 @@ module _ {t : Tables} {E : List Entry} {member kind end : ℕ} (none : kind ≡ 
 pub lamp-column-small :
     {t : Tables} {n member kind : ℕ} → WellFormed t → HasMember t n member kind → lampColumn (t .ends) kind ≤ 255
 lamp-column-small {t} {n} {member} {kind} wf has =
-    omega (arith, lamp-column-in (t .ends) (t .kinds) kind (has .kind-range), wf .columns-range)
+    omega (arith, lamp-column-in (t .ends) (t .kinds) kind (has .kind-range), wf .formed .columns-range)
 
 -- A line with a lamp goes on at its last lamp, with the pair of its member.
 pub lamp-begins :

@@ -153,7 +153,7 @@ module _ (s : List ℕ) {j : Job} (opened : Opened s j) where
   first-held added =
       everywhere (λ w c. (
         λ (marked, c<). (
-          added-to-none added w .1 (w .0, well-formed s j opened .start-range w marked, (refl, marked)),
+          added-to-none added w .1 (w .0, well-formed s j opened .formed .start-range w marked, (refl, marked)),
           c<,
         ),
         λ (has, c<). let (i, i<, (same, marked)) = added-to-none added w .0 has in (marked, c<),
@@ -164,7 +164,7 @@ module _ (s : List ℕ) {j : Job} (opened : Opened s j) where
   first-worlds first =
       record {
         below = λ w c held.
-            rw (worlds-are s j opened) (well-formed s j opened .start-range w (first .holds w c .0 held .0));
+            rw (worlds-are s j opened) (well-formed s j opened .formed .start-range w (first .holds w c .0 held .0));
       }
 
   -- So are those after an entry.
@@ -175,7 +175,7 @@ module _ (s : List ℕ) {j : Job} (opened : Opened s j) where
         below = λ w c held.
             let n = next .holds w c .0 held in
             rw (worlds-are s j opened)
-            (well-formed s j opened .next-range (actionOf l) (n .world) w (n .at) (resultOf l) (n .leads));
+            (well-formed s j opened .formed .next-range (actionOf l) (n .world) w (n .at) (resultOf l) (n .leads));
       }
 
   -- After one more entry.

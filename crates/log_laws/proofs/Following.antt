@@ -94,7 +94,7 @@ module _ (t : Tables) where
             let same-world : to .start ≡ w = ap (λ (s : Situation). s .world) same-situation in
             (sym same-state, first w (column t rest) .1 (rw same-world at (to .beginning .marked), column-is-below t (left-fits to)));
         at-column = λ {w} {c} held. first w c .0 held .1;
-        some-candidate = let (w, marked) = wf .some-start in (w, 0, first w 0 .1 (marked, some-column t));
+        some-candidate = let (w, marked) = wf .formed .some-start in (w, 0, first w 0 .1 (marked, some-column t));
       }
 
   -- One more entry that can be made.
@@ -123,7 +123,7 @@ module _ (t : Tables) where
           (b : Bool) → movesOn t (actionOf l) ≡ b → LeadsTo t (log ++ (l ∷ [])) q′ w rest
       next-led-on n fits is-column true moving =
           let at-lamp : ¬ (n .at < endKinds (t .ends)) =
-          λ is-end. none-in-empty _ _ (wf .end-stays (actionOf l) (n .world) (n .at) moving is-end) (n .leads) in
+          λ is-end. none-in-empty _ _ (wf .formed .end-stays (actionOf l) (n .world) (n .at) moving is-end) (n .leads) in
           let before = lamp-before t fits (follows .at-column (n .candidate)) at-lamp in
           next-led (n .candidate) (n .leads) (before .fits) (before .is-column) (rw moving (sym (before .is-rest)))
       next-led-on n fits is-column false staying =

@@ -35,7 +35,7 @@ module _ (t : Tables) where
   -- The log without entries is possible.
   pub empty-possible : WellFormed t → Possible t []
   empty-possible wf =
-      let (start, marked) = wf .some-start in
+      let (start, marked) = wf .formed .some-start in
       let at = line-at t (some-column t) in
       let beginning : Beginning t start (at .line) = record { marked = marked; fits = at .fits } in
       (start, at .line, record { beginning = beginning; state = t .first; at = situation start (at .line); execution = here })

@@ -105,7 +105,7 @@ module _ {s : List ℕ} {j : Job} {log sets : List ℕ} {i : ℕ} {q : ProgramSt
               opened = now .opened;
               entries-right = now .entries-right;
               within = omega arith;
-              state-range = rw (states-are s j (now .opened)) (wf .target-range q to (entry .result) (on .branch) .1);
+              state-range = rw (states-are s j (now .opened)) (wf .formed .target-range q to (entry .result) (on .branch) .1);
               long = long;
               worlds = next-worlds s (now .opened) (record { holds = on .next });
               follows = rw (add-one i, ← read) (follows-next (tablesOf s) wf (now .follows) on);

@@ -88,7 +88,7 @@ module _
   member-of : MemberOf n member kind
   member-of =
       record {
-        a-start = λ none. omega (arith, new .here .a-start none, new .well-formed .worlds-range .1);
+        a-start = λ none. omega (arith, new .here .a-start none, new .well-formed .formed .worlds-range .1);
         a-place = new .here .a-place;
       }
 
@@ -109,10 +109,10 @@ module _
     unfolding columns endKinds
     packable =
         record {
-          state-fits = omega (arith, new .comes .range .state-range, new .well-formed .states-range);
-          world-fits = omega (arith, new .comes .range .world-range, new .well-formed .worlds-range .1);
+          state-fits = omega (arith, new .comes .range .state-range, new .well-formed .formed .states-range);
+          world-fits = omega (arith, new .comes .range .world-range, new .well-formed .formed .worlds-range .1);
           member-fits = member-small;
-          kind-fits = omega (arith, new .here .kind-range, new .well-formed .columns-range);
+          kind-fits = omega (arith, new .here .kind-range, new .well-formed .formed .columns-range);
         }
 
     abbrev list′ : List ℕ

@@ -132,7 +132,7 @@ module _
     -- It is below 16.
     pub kind-few : kind < 16
     unfolding columns endKinds
-    kind-few = omega (arith, last-range, ready-tables (at .ready) .columns-range)
+    kind-few = omega (arith, last-range, ready-tables (at .ready) .formed .columns-range)
 
     -- They are the members of the line.
     pub group-members : Members t n to kind
@@ -189,7 +189,7 @@ module _
         (at .verdict-is ∙ ap conclusion (kind-answers t (at .fuel) E from to last kind next here (line .answer-is)))
         (sym (line-length t (at .layered) (at .in-order) in-layer (table t list′ m) w (line .answer-is)))
         (record {
-          a-start = λ none. omega (arith, group-members .starts none, line .high, ready-tables (at .ready) .worlds-range .1);
+          a-start = λ none. omega (arith, group-members .starts none, line .high, ready-tables (at .ready) .formed .worlds-range .1);
           a-place = λ lamp. omega (arith, group-members .places lamp, line .high, line .more);
         })
         (at .short)

@@ -105,7 +105,7 @@ module _
   members-few = go k refl
     where
       go : (c : ℕ) → k ≡ c → to ≤ 4160
-      go zero none = omega (arith, at .members .starts none, ready-tables (at .ready) .worlds-range .1)
+      go zero none = omega (arith, at .members .starts none, ready-tables (at .ready) .formed .worlds-range .1)
       go (suc c) lamp = omega (arith, at .members .places (omega arith), at .more, held-few (at .ready) (at .listed))
 
   module _ (here : i < to) where

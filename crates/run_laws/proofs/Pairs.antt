@@ -11,7 +11,7 @@ use Rattle.run_laws.specs.inner.Pairs.{InRange, pairs, pairNumber, pairO
 
 -- There are at most 65 times 64 pairs.
 pub pairs-few : {t : Tables} → WellFormed t → pairs t ≤ 4160
-pairs-few {t} wf = product-le 65 64 (t .states + 1) (t .worlds) (omega (arith, wf .states-range)) (wf .worlds-range .1)
+pairs-few {t} wf = product-le 65 64 (t .states + 1) (t .worlds) (omega (arith, wf .formed .states-range)) (wf .formed .worlds-range .1)
 
 -- The number of a pair whose state is below a bound is below as many rows. With S as the bound the state is not final.
 pub pair-number-bound :

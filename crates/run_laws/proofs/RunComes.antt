@@ -54,7 +54,7 @@ module _ (t : Tables) (wf : WellFormed t) (start : WorldState) (line : Line) (of
     range : InRange t p
     range =
         execution-in-range t wf (came .execution)
-        (record { state-range = wf .first-range; world-range = wf .start-range start (of .marked) })
+        (record { state-range = wf .formed .first-range; world-range = wf .formed .start-range start (of .marked) })
 
     -- The walk at this lamp ends the run.
     ended-comes :

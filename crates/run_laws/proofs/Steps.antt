@@ -57,8 +57,8 @@ module _ (t : Tables) (wf : WellFormed t) where
       InRange t (pair q′ (s′ .world))
   step-in-range {l} {q} {q′} {s} {s′} x =
       record {
-        state-range = wf .target-range q q′ (resultOf l) (x .branch) .1;
-        world-range = wf .next-range (t .action q) (s .world) (s′ .world) (column t (s .rest)) (resultOf l) (x .does .0);
+        state-range = wf .formed .target-range q q′ (resultOf l) (x .branch) .1;
+        world-range = wf .formed .next-range (t .action q) (s .world) (s′ .world) (column t (s .rest)) (resultOf l) (x .does .0);
       }
 
   -- An execution from a pair of the tables leads to pairs of the tables.
@@ -84,7 +84,7 @@ module _ (t : Tables) (wf : WellFormed t) where
       go : (lamps : List ℕ) → s .rest .lamps ≡ lamps → length lamps ≡ suc (length (s′ .rest .lamps))
       go [] e =
           let c : column t (s .rest) ≡ s .rest .end = rw e in
-          let illegal = wf .end-stays (t .action q) (s .world) (column t (s .rest)) moves (rw c h) in
+          let illegal = wf .formed .end-stays (t .action q) (s .world) (column t (s .rest)) moves (rw c h) in
           absurd (none-in-empty (outcome (s′ .world) (resultOf l)) (t .cell (t .action q) (s .world) (column t (s .rest)))
           illegal (x .does .0))
       go (kind ∷ lamps) e = ap (λ (rest : List ℕ). suc (length rest)) (sym (rw e at (ap (λ line. line .lamps) passes)))

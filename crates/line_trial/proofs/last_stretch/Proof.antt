@@ -29,7 +29,7 @@ at-unpack w = w .before .before
 cast-t15 : tie.Need-cast-t15
 cast-t15 c =
     let b = start (c .before) in
-    omega (arith, b .pre .2 .a-start (c .if1 .taken), well-formed-by _ _ (b .pre .0) .worlds-range)
+    omega (arith, b .pre .2 .a-start (c .if1 .taken), well-formed-by _ _ (b .pre .0) .formed .worlds-range)
 
 is-start-requires : tie.Need-is-start-requires
 is-start-requires c κs = search needs
