@@ -50,12 +50,14 @@ module _ (t : Tables) where
     pub plain : Plain graph
     plain =
         record {
-          start-one = λ s x x′ (m, e) (m′, e′). e ∙ sym e′;
-          start-own = λ s s′ x (m, e) (m′, e′).
-              let same =
-              pair-number-injective (t .worlds) (pair (t .first) (worldState s)) (pair (t .first) (worldState s′))
-              (wf .formed .start-range (worldState s) m) (wf .formed .start-range (worldState s′) m′) (sym e ∙ e′) in
-              ap (λ (p : Pair). p .world .0) same;
+          starts = record {
+            start-one = λ s x x′ (m, e) (m′, e′). e ∙ sym e′;
+            start-own = λ s s′ x (m, e) (m′, e′).
+                let same =
+                pair-number-injective (t .worlds) (pair (t .first) (worldState s)) (pair (t .first) (worldState s′))
+                (wf .formed .start-range (worldState s) m) (wf .formed .start-range (worldState s′) m′) (sym e ∙ e′) in
+                ap (λ (p : Pair). p .world .0) same;
+          };
           to-one = λ x c y y′ e e′. (cc);
           bad-one = λ x c. fails-once x (lampColumn (t .ends) c);
           bad-to = λ x c f y (kind, e, n) e′. let z : _≡_ {A = ℕ} 0 1 = cc in omega arith;

@@ -75,10 +75,10 @@ module _ (t : Tables) where
 
   -- The failure at the lowest end is the lowest.
   lowest-at-end :
-      (y e e′ f′ : ℕ) (kind : FailureKind) → BadAtEnd t y e kind → FailsAt t y e′ f′ → (e < e′) ⊎ ((e ≡ e′) × (kindNumber kind ≡ f′))
+      (y e e′ f′ : ℕ) (kind : FailureKind) → BadAtEnd t y e kind → FailsAt t y e′ f′ → (e < e′) ⊎ ((e ≡ e′) × (kindNumber kind ≤ f′))
   lowest-at-end y e e′ f′ kind b (kind′, g, n) = go (decLt e e′) (decLt e′ e)
     where
-      go : Dec (e < e′) → Dec (e′ < e) → (e < e′) ⊎ ((e ≡ e′) × (kindNumber kind ≡ f′))
+      go : Dec (e < e′) → Dec (e′ < e) → (e < e′) ⊎ ((e ≡ e′) × (kindNumber kind ≤ f′))
       go (yes u) v = inl u
       go (no u) (yes v) = absurd (b .lowest e′ f′ v (kind′, g, n))
       go (no u) (no v) =
@@ -86,7 +86,8 @@ module _ (t : Tables) where
           let there : fate t y e ≡ fails kind′ = ap (fate t y) same ∙ g in
           let first = b .fate-is in
           let same-kind : kind ≡ kind′ = cc in
-          inr (same, ap kindNumber same-kind ∙ n)
+          let same-number : kindNumber kind ≡ f′ = ap kindNumber same-kind ∙ n in
+          inr (same, omega arith)
 
   module _ (wf : WellFormed t) where
     -- ---- what a trial says of its member
@@ -142,10 +143,10 @@ module _ (t : Tables) where
     lamp-so E c i ends-good (fails kind) e =
         record { fails = (some-end t, bad-lamp (kind, e, refl)); lowest = λ e′ f′ (le, d). own d }
       where
-        own : {e′ f′ : ℕ} → FailsAlong (graph t) (node E i) (suc c ∷ []) e′ f′ → (0 < e′) ⊎ ((0 ≡ e′) × (kindNumber kind ≡ f′))
+        own : {e′ f′ : ℕ} → FailsAlong (graph t) (node E i) (suc c ∷ []) e′ f′ → (0 < e′) ⊎ ((0 ≡ e′) × (kindNumber kind ≤ f′))
         own {e′} {f′} (bad-lamp h) =
             ⊎-elim (λ u. inl u)
-            (λ u. inr (u, plain t wf .bad-one (node E i) (suc c) (kindNumber kind) f′ (kind, e, refl) h)) (below-or-last 0 e′ (omega arith))
+            (λ u. inr (u, omega (arith, plain t wf .bad-one (node E i) (suc c) (kindNumber kind) f′ (kind, e, refl) h))) (below-or-last 0 e′ (omega arith))
         own (along to d) = absurd (let z : _≡_ {A = ℕ} 0 1 = cc in omega arith)
     lamp-so E c i ends-good (arrives y) e =
         ends-so E (suc c) i y ends-good (λ e′ f. (
@@ -179,9 +180,9 @@ module _ (t : Tables) where
     start-leaves E a b s n (taken, is-b, is-n) true e = go (visit t E (startNode t s)) (at-end E (startNode t s))
       where
         go : (r : Trial) → AtEnd E (startNode t s) r → Leaves E a b zero s n r
-        go _ (known j l is) = absurd (start-new taken (plain t wf) (startNode t s) (e, refl) j l is)
+        go _ (known j l is) = absurd (start-new taken (plain t wf .starts) (startNode t s) (e, refl) j l is)
         go _ (new fresh ends) = (
-          take-start taken (plain t wf) (startNode t s) (e, refl) ends (eqb (length E) n) (λ some. ne-eqb (length E) n (λ same. omega arith)),
+          take-start taken (plain t wf .starts) (startNode t s) (e, refl) ends (eqb (length E) n) (λ some. ne-eqb (length E) n (λ same. omega arith)),
           is-b,
           is-n,
         )

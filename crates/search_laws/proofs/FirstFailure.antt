@@ -7,17 +7,17 @@ use native.Mathlib.Omega.{arith}
 use Rattle.search_laws.proofs.Grown.{below-or-last}
 
 -- `P i e f` says that the member i fails with the end e and the failure f. The failure f at the end e is the lowest of this member: it
--- has no other at this end, and none at a lower one.
+-- has no lower one at this end, and none at a lower end.
 pub record Lowest (P : ℕ → ℕ → ℕ → Type 0) (i e f : ℕ) : Type 0 where
   pub fails : P i e f
-  pub lowest : (e′ f′ : ℕ) → P i e′ f′ → (e < e′) ⊎ ((e ≡ e′) × (f ≡ f′))
+  pub lowest : (e′ f′ : ℕ) → P i e′ f′ → (e < e′) ⊎ ((e ≡ e′) × (f ≤ f′))
 
 -- Of the failures of the members from `from` to `to`, the failure f of the member w at the end e is the first.
 pub record First (P : ℕ → ℕ → ℕ → Type 0) (from to w e f : ℕ) : Type 0 where
   pub low : from ≤ w
   pub high : w < to
   pub fails : P w e f
-  pub first : (i e′ f′ : ℕ) → from ≤ i → i < to → P i e′ f′ → (e < e′) ⊎ ((e ≡ e′) × ((w < i) ⊎ ((w ≡ i) × (f ≡ f′))))
+  pub first : (i e′ f′ : ℕ) → from ≤ i → i < to → P i e′ f′ → (e < e′) ⊎ ((e ≡ e′) × ((w < i) ⊎ ((w ≡ i) × (f ≤ f′))))
 
 module _ {P : ℕ → ℕ → ℕ → Type 0} where
   -- One member alone.
@@ -25,7 +25,7 @@ module _ {P : ℕ → ℕ → ℕ → Type 0} where
   first-alone {w} {e} {f} own =
       record { low = omega arith; high = omega arith; fails = own .fails; first = first }
     where
-      first : (i e′ f′ : ℕ) → w ≤ i → i < w + 1 → P i e′ f′ → (e < e′) ⊎ ((e ≡ e′) × ((w < i) ⊎ ((w ≡ i) × (f ≡ f′))))
+      first : (i e′ f′ : ℕ) → w ≤ i → i < w + 1 → P i e′ f′ → (e < e′) ⊎ ((e ≡ e′) × ((w < i) ⊎ ((w ≡ i) × (f ≤ f′))))
       first i e′ f′ low high h =
           let same : i ≡ w = omega arith in
           ⊎-elim (λ u. inl u) (λ (u, v). inr (u, inr (sym same, v))) (own .lowest e′ f′ (rw same at h))
@@ -54,7 +54,7 @@ module _ {P : ℕ → ℕ → ℕ → Type 0} where
                 ⊎-elim (λ u. so-far .first i e″ f″ low u h) (λ (u : i ≡ to). last i e″ f″ u (rw u at h)) (below-or-last i to high);
           }
         where
-          last : (i e″ f″ : ℕ) → i ≡ to → P to e″ f″ → (e < e″) ⊎ ((e ≡ e″) × ((w < i) ⊎ ((w ≡ i) × (f ≡ f″))))
+          last : (i e″ f″ : ℕ) → i ≡ to → P to e″ f″ → (e < e″) ⊎ ((e ≡ e″) × ((w < i) ⊎ ((w ≡ i) × (f ≤ f″))))
           last i e″ f″ u h =
               ⊎-elim (λ v. inl (omega arith))
               (λ (v, x). ⊎-elim (λ y. inl (omega arith)) (λ y. inr (omega arith, inl (omega (arith, so-far .high)))) (below-or-last e e′ (omega arith)))
@@ -73,10 +73,10 @@ module _ {P : ℕ → ℕ → ℕ → Type 0} where
           }
         where
           earlier :
-              (i e″ f″ : ℕ) → (e < e″) ⊎ ((e ≡ e″) × ((w < i) ⊎ ((w ≡ i) × (f ≡ f″)))) →
-              (e′ < e″) ⊎ ((e′ ≡ e″) × ((to < i) ⊎ ((to ≡ i) × (f′ ≡ f″))))
+              (i e″ f″ : ℕ) → (e < e″) ⊎ ((e ≡ e″) × ((w < i) ⊎ ((w ≡ i) × (f ≤ f″)))) →
+              (e′ < e″) ⊎ ((e′ ≡ e″) × ((to < i) ⊎ ((to ≡ i) × (f′ ≤ f″))))
           earlier i e″ f″ (inl u) = inl (omega arith)
           earlier i e″ f″ (inr (u, v)) = inl (omega arith)
 
-          last : (i e″ f″ : ℕ) → i ≡ to → P to e″ f″ → (e′ < e″) ⊎ ((e′ ≡ e″) × ((to < i) ⊎ ((to ≡ i) × (f′ ≡ f″))))
+          last : (i e″ f″ : ℕ) → i ≡ to → P to e″ f″ → (e′ < e″) ⊎ ((e′ ≡ e″) × ((to < i) ⊎ ((to ≡ i) × (f′ ≤ f″))))
           last i e″ f″ u h = ⊎-elim (λ v. inl v) (λ (v, x). inr (v, inr (sym u, x))) (own .lowest e″ f″ h)

@@ -79,6 +79,10 @@ module _ (p p′ : List ℕ) (e e′ s s′ f f′ : ℕ) where
   pub key-by-start : p ≡ p′ → e ≡ e′ → s < s′ → key p e s f ≼ key p′ e′ s′ f′
   key-by-start h same lower = key-by-tail h (unfold tail _≼_ in inr (same, inl lower))
 
+  -- On the same line with the same end and the same start, a lower failure gives an earlier key.
+  pub key-by-failure : p ≡ p′ → e ≡ e′ → s ≡ s′ → f ≤ f′ → key p e s f ≼ key p′ e′ s′ f′
+  key-by-failure h same start lower = key-by-tail h (unfold tail _≼_ in inr (same, inr (start, ≼-single f f′ lower)))
+
   key-cases : key p e s f ≼ key p′ e′ s′ f′ → (stem p ≺ stem p′) ⊎ ((p ≡ p′) × (tail e s f ≼ tail e′ s′ f′))
   unfolding key stem _≼_ _≺_
   key-cases (inl x) = inl (inl x)

@@ -10,9 +10,8 @@ use lib.ListN.{length, length-append}
 use Rattle.lamp_line.specs.Lists.{_≼_}
 use Rattle.lamp_line.specs.Tables.{Kinds}
 use Rattle.search_laws.specs.inner.Lists.{_▸_}
-use Rattle.search_laws.proofs.Lex.{≼-refl}
-use Rattle.search_laws.proofs.Keys.{key, stem-longer, key-by-stem, key-by-end, key-by-start}
-use Rattle.search_laws.specs.inner.Graph.{Graph, Kind, FailsAlong, bad-end, Reach, from-start, FailsFrom, Plain}
+use Rattle.search_laws.proofs.Keys.{key, stem-longer, key-by-stem, key-by-end, key-by-start, key-by-failure}
+use Rattle.search_laws.specs.inner.Graph.{Graph, Kind, FailsAlong, bad-end, Reach, from-start, FailsFrom, OwnStarts}
 use Rattle.search_laws.proofs.Graph.{Least}
 use Rattle.search_laws.specs.inner.Entries.{Entry, entry, node, start, path, opens, grown, groupEnd}
 use Rattle.search_laws.proofs.Table.{keyOf, Known}
@@ -74,11 +73,11 @@ module _ {g : Graph} {E : List Entry} {q : ℕ} (b : StartsTaken g E q) where
       }
 
   -- The start q has a node, which no other start has.
-  module _ (plain : Plain g) (x : ℕ) (st : g .Start q x) where
+  module _ (own : OwnStarts g) (x : ℕ) (st : g .Start q x) where
     -- The node is not in the table.
     pub start-new : (i : ℕ) → i < length E → node E i ≢ x
     start-new i l e =
-        let same = plain .start-own (start E i) q x (subst (λ (y : ℕ). g .Start (start E i) y) e (b .of-starts i l)) st in
+        let same = own .start-own (start E i) q x (subst (λ (y : ℕ). g .Start (start E i) y) e (b .of-starts i l)) st in
         omega (arith, b .taken i l)
 
     -- It fails at no end: it is added.
@@ -103,7 +102,7 @@ module _ {g : Graph} {E : List Entry} {q : ℕ} (b : StartsTaken g E q) where
 
         root : (s x′ : ℕ) → g .Start s x′ → (s < q) ⊎ (s ≡ q) → Known (grown E z) x′ s []
         root s x′ st′ (inl y) = known-grown E z (b .roots s x′ y st′)
-        root s x′ st′ (inr y) = rw (y, plain .start-one q x′ x (rw y at st′) st) (known-new E z)
+        root s x′ st′ (inr y) = rw (y, own .start-one q x′ x (rw y at st′) st) (known-new E z)
 
   -- The first failure of the starts that are not taken, on the empty line, is the least of all failures.
   pub empty-least :
@@ -120,10 +119,10 @@ module _ {g : Graph} {E : List Entry} {q : ℕ} (b : StartsTaken g E q) where
       of-all : (s′ : ℕ) (l′ : List ℕ) (e′ f′ : ℕ) → FailsFrom g s′ l′ e′ f′ → key [] e w f ≼ key l′ e′ s′ f′
       of-all s′ [] e′ f′ d = go (below-or-not s′ q)
         where
-          by : (e < e′) ⊎ ((e ≡ e′) × ((w < s′) ⊎ ((w ≡ s′) × (f ≡ f′)))) → key [] e w f ≼ key [] e′ s′ f′
+          by : (e < e′) ⊎ ((e ≡ e′) × ((w < s′) ⊎ ((w ≡ s′) × (f ≤ f′)))) → key [] e w f ≼ key [] e′ s′ f′
           by (inl h) = key-by-end [] [] e e′ w s′ f f′ refl h
           by (inr (h, inl u)) = key-by-start [] [] e e′ w s′ f f′ refl h u
-          by (inr (h, inr (u, v))) = rw (h, u, v) (≼-refl (key [] e′ s′ f′))
+          by (inr (h, inr (u, v))) = key-by-failure [] [] e e′ w s′ f f′ refl h u v
 
           go : (s′ < q) ⊎ (q ≤ s′) → key [] e w f ≼ key [] e′ s′ f′
           go (inl h) =

@@ -10,8 +10,8 @@ use lib.Dec.{eqb}
 use lib.ListN.{length}
 use Rattle.lamp_line.specs.Lists.{_≼_}
 use Rattle.search_laws.specs.inner.Lists.{_▸_, _≺_}
-use Rattle.search_laws.proofs.Lex.{≼-refl, ≺-irrefl}
-use Rattle.search_laws.proofs.Keys.{stem, key, key-by-end, key-by-start}
+use Rattle.search_laws.proofs.Lex.{≺-irrefl}
+use Rattle.search_laws.proofs.Keys.{stem, key, key-by-end, key-by-start, key-by-failure}
 use Rattle.search_laws.specs.inner.Graph.{Graph, Kind, Reach, FailsFrom, Plain}
 use Rattle.search_laws.proofs.Graph.{Least}
 use Rattle.search_laws.specs.inner.Entries.{Entry, entryAt, node, start, path, grown, onward, groupEnd}
@@ -81,13 +81,14 @@ module _ {g : Graph} {E : List Entry} {a b k m n : ℕ} (sweep : Sweep g E a b k
               (sweep .inv .one-line w (from-a w (first .low)) (first .high) ∙ sym (sweep .inv .one-line i (from-a i x) y))
 
           by :
-              (e < e′) ⊎ ((e ≡ e′) × ((w < i) ⊎ ((w ≡ i) × (f ≡ f′)))) →
+              (e < e′) ⊎ ((e ≡ e′) × ((w < i) ⊎ ((w ≡ i) × (f ≤ f′)))) →
               key (path E w ▸ k) e (start E w) f ≼ key (path E i ▸ k) e′ (start E i) f′
           by (inl lower) = key-by-end (path E w ▸ k) (path E i ▸ k) e e′ (start E w) (start E i) f f′ line lower
           by (inr (same, inl before)) =
               key-by-start (path E w ▸ k) (path E i ▸ k) e e′ (start E w) (start E i) f f′ line same
               (group-rises w i (from-a w (first .low)) before y)
-          by (inr (same, inr (here, kind-is))) = rw (same, here, kind-is) (≼-refl (key (path E i ▸ k) e′ (start E i) f′))
+          by (inr (same, inr (here, no-higher))) =
+              key-by-failure (path E w ▸ k) (path E i ▸ k) e e′ (start E w) (start E i) f f′ line same (ap (start E) here) no-higher
 
   -- The entry m is tried, and does not fail at the lamp.
   module _ (here : m < b) (good : (f : ℕ) → ¬ (g .Bad (node E m) k f)) where

@@ -45,10 +45,14 @@ module _ (g : Graph) where
     pub ended : e < g .endCount
     pub fails : FailsAlong first l e f
 
--- Each start has one node, which no other start has. At each kind of lamp a node has at most one edge or one failure, and not both.
-pub record Plain (g : Graph) : Type 0 where
+-- Each start has one node, which no other start has.
+pub record OwnStarts (g : Graph) : Type 0 where
   pub start-one : (s x x′ : ℕ) → g .Start s x → g .Start s x′ → x ≡ x′
   pub start-own : (s s′ x : ℕ) → g .Start s x → g .Start s′ x → s ≡ s′
+
+-- So it is, and at each kind of lamp a node has at most one edge or one failure, and not both.
+pub record Plain (g : Graph) : Type 0 where
+  pub starts : OwnStarts g
   pub to-one : (x c y y′ : ℕ) → g .To x c y → g .To x c y′ → y ≡ y′
   pub bad-one : (x c f f′ : ℕ) → g .Bad x c f → g .Bad x c f′ → f ≡ f′
   pub bad-to : (x c f y : ℕ) → g .Bad x c f → ¬ (g .To x c y)
