@@ -98,7 +98,7 @@ fn moves_on_at_end(file: &[u8], job: Job, action: u8) -> bool
     ensures { λ r. ⌜ r ≡ movesOnAtEnd (now (file .entry)) job action ⌝ }
 {
     let at = mark_place(job, action);
-    if file[at] == 1 {
+    if file[at] != 0 {
         return legal_at_ends(file, job, action);
     }
     false

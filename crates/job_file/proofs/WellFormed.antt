@@ -22,7 +22,7 @@ use Rattle.lamp_line.proofs.Scan.{none-at, some-at}
 use Rattle.job_layout.specs.declared.Job.{Job}
 use Rattle.job_layout.specs.JobTables.{outcomes, tablesBy, tablesOf}
 use Rattle.job_layout.specs.inner.Laid.{Laid}
-use Rattle.job_layout.specs.FileRefusals.{notBit, isSet, cellWrongIn, cellWrongAt, legalAt, legalAtEnd, movesOnAtEnd, actionWrongAt, targetWrongAt, rowWrong}
+use Rattle.job_layout.specs.FileRefusals.{differs, notBit, isSet, cellWrongIn, cellWrongAt, legalAt, legalAtEnd, movesOnAtEnd, actionWrongAt, targetWrongAt, rowWrong}
 use Rattle.head_refusals.proofs.HeadLaws.{neither, laid}
 use Rattle.job_file.specs.Reading.{Opened}
 use Rattle.job_file.proofs.NoneApplies.{NoneApplies, none-applies}
@@ -105,7 +105,7 @@ module _ (s : List ℕ) (j : Job) where
         (none-applies .cells) ((a * j .worlds + w .0) * jobColumns j + c) (digits-lt row c<)
 
     -- An action that moves on has 255 for its result at each end.
-    end-result : (a : Action) (w e : ℕ) → a < j .actions → w < j .worlds → e < endKinds (j .ends) → eqb (byte s (markPlace j a)) 1 ≡ true →
+    end-result : (a : Action) (w e : ℕ) → a < j .actions → w < j .worlds → e < endKinds (j .ends) → differs (byte s (markPlace j a)) 0 ≡ true →
         eqb (byte s (resultPlace j a (worldState w) e)) 255 ≡ true
     end-result a w e a< w< e< moves =
         let here = none-at (movesOnAtEnd s j) (j .actions) (none-applies .ends) a a< in
@@ -146,7 +146,7 @@ module _ (s : List ℕ) (j : Job) where
         (cell-result (j .worlds) (j .results) (byte s (nextPlace j a w c)) _ (cell-right a w c (cell .action-in) (cell .world-in) (cell .column-in)) (cell .legal))
 
     -- An action that moves on has no outcome at an end.
-    no-outcome : (a : Action) (w : WorldState) (c : ℕ) → a < j .actions → c < endKinds (j .ends) → eqb (byte s (markPlace j a)) 1 ≡ true →
+    no-outcome : (a : Action) (w : WorldState) (c : ℕ) → a < j .actions → c < endKinds (j .ends) → differs (byte s (markPlace j a)) 0 ≡ true →
         tablesBy s j .cell a w c ≡ []
     no-outcome a w c a< c< moves =
         choice (λ l. l ≡ []) (ltb a (j .actions) && ltb (w .0) (j .worlds) && ltb c (jobColumns j))
@@ -157,7 +157,7 @@ module _ (s : List ℕ) (j : Job) where
     end-stays : (a : Action) (w : WorldState) (c : ℕ) → movesOn (tablesBy s j) a ≡ true → c < endKinds (j .ends) →
         tablesBy s j .cell a w c ≡ []
     end-stays a w c moves c< =
-        choice (λ n. eqb n 1 ≡ true → tablesBy s j .cell a w c ≡ []) (ltb a (j .actions))
+        choice (λ n. differs n 0 ≡ true → tablesBy s j .cell a w c ≡ []) (ltb a (j .actions))
         (λ e m. no-outcome a w c (ltb-true _ _ e) c< m)
         (λ e m. let z : false ≡ true = m in cc)
         moves

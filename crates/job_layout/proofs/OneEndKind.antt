@@ -7,7 +7,7 @@ use Prim.Native.Nat.{ℕ, _+_, _*_, _<_}
 use native.Mathlib.Decide.{decLt}
 use native.Mathlib.Omega.{arith}
 use borrow.Author.Tests.{lt-ltb, le-ltb}
-use lib.Dec.{eqb, ltb}
+use lib.Dec.{ltb}
 use lib.ListN.{length}
 use Rattle.lamp_line.specs.declared.WorldState.{WorldState}
 use Rattle.lamp_line.specs.Lists.{_≼_}
@@ -96,7 +96,7 @@ one-end-kind-as-before s none =
           (kinds-decide (byte s 6 + 1) (head s .kinds) (byte s 6) (omega arith) none (outside 1 16 (head s .actions) || outside 1 64 (head s .worlds))
           (outside 1 8 (head s .results)) (outside 0 64 (head s .states)) (outside 0 (head s .states) (head s .first .0)));
       refusal-7 = λ a.
-          ap (λ (b : Bool). eqb (byte s (markPlace (head s) a)) 1 && b)
+          ap (λ (b : Bool). differs (byte s (markPlace (head s) a)) 0 && b)
           (some-below-one (legalAtEnd s (head s) a) (byte s 6 + 1) (omega arith)
           ∙ ap (λ (n : ℕ). some-below (head s .worlds) (λ w. differs (byte s (head s .cells .offset + 2 * ((a * head s .worlds + w) * n + 0) + 1)) 255))
           count);

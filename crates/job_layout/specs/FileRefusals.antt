@@ -115,7 +115,7 @@ legalAtEnd s j a e = some-below (j .worlds) (legalAt s j a e)
 
 -- The action a moves on, and is legal at some end.
 abbrev pub movesOnAtEnd : List ℕ → Job → ℕ → Bool
-movesOnAtEnd s j a = eqb (byte s (markPlace j a)) 1 && some-below (endKinds (j .ends)) (legalAtEnd s j a)
+movesOnAtEnd s j a = differs (byte s (markPlace j a)) 0 && some-below (endKinds (j .ends)) (legalAtEnd s j a)
 
 abbrev pub endWrong : List ℕ → Job → Bool
 endWrong s j = some-below (j .actions) (movesOnAtEnd s j)

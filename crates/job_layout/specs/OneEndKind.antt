@@ -6,7 +6,6 @@ use mathlib.Core.Logic.{_↔_}
 use mathlib.Core.Bool.{Bool, _||_, _&&_}
 use mathlib.Core.List.{List, [], _∷_, _++_}
 use Prim.Native.Nat.{ℕ, _+_, _*_}
-use lib.Dec.{eqb}
 use lib.ListN.{length}
 use Rattle.plans.specs.Plan.{Action}
 use Rattle.lamp_line.specs.declared.WorldState.{WorldState}
@@ -41,7 +40,7 @@ numberWrongBefore s j =
 -- 7: the action moves on, and is legal in column 0 in some world state.
 abbrev movesOnBefore : List ℕ → Job → ℕ → Bool
 movesOnBefore s j a =
-    eqb (byte s (markPlace j a)) 1 && some-below (j .worlds) (λ w. differs (byte s (nextPlaceBefore j a (worldState w) 0 + 1)) 255)
+    differs (byte s (markPlace j a)) 0 && some-below (j .worlds) (λ w. differs (byte s (nextPlaceBefore j a (worldState w) 0 + 1)) 255)
 
 -- All of it is as before for this file.
 pub record AsBefore (s : List ℕ) : Type 0 where

@@ -1,6 +1,6 @@
 -- The byte at the place that the code computes for an entry is the entry of the tables.
 use mathlib.Core.Path.{_≡_, sym, _∙_, subst}
-use mathlib.Core.Bool.{false}
+use mathlib.Core.Bool.{false, not}
 use mathlib.Core.Option.{none, some}
 use mathlib.Core.List.{List, [], _∷_}
 use Prim.Native.Nat.{ℕ, _+_, _<_, _≤_}
@@ -30,8 +30,11 @@ cell-legal read other = sym (rw (ne-eqb _ _ other)) ∙ read .are
 
 module _ (s : List ℕ) {j : Job} (opened : Opened s j) {at : ℕ} where
   -- An action's mark.
-  pub mark-is : (a : Action) → at ≡ markPlace j a → a < j .actions → eqb (byte s at) 1 ≡ movesOn (tablesOf s) a
-  mark-is a e a< = rw e (subst (λ (t : Tables). eqb (byte s (markPlace j a)) 1 ≡ movesOn t a) (tables-are s j opened) (rw (lt-ltb _ _ a<)))
+  pub mark-is : (a : Action) → at ≡ markPlace j a → a < j .actions → not (eqb (byte s at) 0) ≡ movesOn (tablesOf s) a
+  mark-is a e a< =
+      rw e
+      (subst (λ (t : Tables). not (eqb (byte s (markPlace j a)) 0) ≡ movesOn t a) (tables-are s j opened)
+      (rw (lt-ltb _ _ a<)))
 
   module _
       (a : Action) (w : WorldState) (c : ℕ) (e : at ≡ nextPlace j a w c) (a< : a < j .actions) (w< : w .0 < j .worlds)

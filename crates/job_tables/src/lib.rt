@@ -36,7 +36,7 @@ pub fn moves_on(file: &[u8], job: Job, action: u8) -> bool
     ensures { λ r. ⌜ r ≡ movesOn (tablesOf (now (file .entry))) action ⌝ }
 {
     let at = mark_place(job, action);
-    file[at] == 1
+    file[at] != 0
 }
 
 // The two bytes of a cell, whether it is legal or not: its next world state, and its result or 255.

@@ -1,7 +1,7 @@
 -- Lines and tables (01, "The line and its tables"; 02, (c), for the ends of lines), and the lamp line as an action theory of 001. The
 -- tables are functions here; the crate job_layout defines how the bytes of a job file give them.
 use mathlib.Core.Path.{_≡_}
-use mathlib.Core.Bool.{Bool, true, cond}
+use mathlib.Core.Bool.{Bool, true, cond, not}
 use mathlib.Core.Option.{Option}
 use mathlib.Core.List.{List, [], _∷_}
 use Prim.Native.Nat.{ℕ, _+_, _≤_, _<_}
@@ -49,9 +49,9 @@ pub record Tables : Type 0 where
 abbrev pub final : Tables → ProgramState
 final t = programState (t .states)
 
--- 01, "Job file": an action with mark 1 moves on.
+-- 01, "Job file": an action with mark 0 does not move on; any other does. Of the others a file that is not refused has only 1.
 abbrev pub movesOn : Tables → Action → Bool
-movesOn t a = eqb (t .mark a) 1
+movesOn t a = not (eqb (t .mark a) 0)
 
 -- ---- lines and columns
 

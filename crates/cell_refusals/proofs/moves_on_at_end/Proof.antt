@@ -16,10 +16,10 @@ legal-at-ends-requires c κs = search needs
 
 returns : tie.Need-returns
 returns c =
-    rw (sym (c .before .before .before .mark-place .ensures), eq-eqb _ 1 (c .before .if1 .taken)) (c .legal-at-ends .ensures)
+    rw (sym (c .before .before .before .mark-place .ensures), ne-eqb _ 0 (c .before .if1 .taken)) (c .legal-at-ends .ensures)
 
 returns-2 : tie.Need-returns-2
-returns-2 c = rw (sym (c .before .before .mark-place .ensures), ne-eqb _ 1 (c .if1 .left))
+returns-2 c = rw (sym (c .before .before .mark-place .ensures), eq-eqb _ 0 (c .if1 .left))
 
 pub moves-on-at-end-spec : {M : Type 1} → statement M
 moves-on-at-end-spec =
