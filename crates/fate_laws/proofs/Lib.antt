@@ -1,3 +1,3 @@
 pub mod Fates
+pub mod Series
 pub mod StepFates
-pub mod Stretches

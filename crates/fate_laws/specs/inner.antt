@@ -1,2 +1,2 @@
 pub mod Fates
-pub mod Stretches
+pub mod Series

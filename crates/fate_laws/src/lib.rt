@@ -1,2 +1,2 @@
-// Laws for the memory of fates: stretches of actions at one column, and what they say about the one-lamp walk. There is no code
+// Laws for the memory of fates: series of actions at one column, and what they say about the one-lamp walk. There is no code
 // here.

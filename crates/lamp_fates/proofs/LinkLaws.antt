@@ -11,7 +11,7 @@ use Rattle.lamp_line.specs.Tables.{Tables}
 use Rattle.lamp_line.specs.Run.{Pair, Walk, lampWalk}
 use Rattle.run_laws.specs.inner.Pairs.{InRange, pairNumber}
 use Rattle.fate_laws.specs.inner.Fates.{uncounted}
-use Rattle.fate_laws.proofs.Stretches.{stays-within}
+use Rattle.fate_laws.proofs.Series.{stays-within}
 use Rattle.fate_laws.proofs.StepFates.{stays-fate}
 use Rattle.lamp_fates.specs.inner.Memory.{fateEntry, entryPlace, remembered}
 use Rattle.lamp_fates.specs.inner.Links.{Asked, After, Link, OnTheWay, Stands, Linked}

@@ -27,8 +27,8 @@ use Rattle.job_file.proofs.WellFormed.{tables-are, well-formed-by}
 use Rattle.lamp_walk.specs.declared.Acted.{Acted}
 use Rattle.lamp_walk.specs.declared.Acted.the-variants as move
 use Rattle.lamp_walk.specs.inner.Walking.{moveOf}
-use Rattle.fate_laws.specs.inner.Stretches.{stretch}
-use Rattle.fate_laws.proofs.Stretches.{stretch-more}
+use Rattle.fate_laws.specs.inner.Series.{series}
+use Rattle.fate_laws.proofs.Series.{series-more}
 use Rattle.fate_laws.proofs.StepFates.{ends-fate, passes-fate, circle-fate}
 use Rattle.lamp_fates.specs.inner.Memory.{pairCode, fateEntry, entryPlace, remembered, Memory}
 use Rattle.lamp_fates.specs.inner.Links.{Asked, After, Stands, Linked, WalkedTo}
@@ -66,7 +66,7 @@ module _ {s : List ℕ} {j : Job} {first : Pair} {column : ℕ} where
         asked = record { well-formed = well-formed-by s j opened; in-range = in-range; column-in = column-in };
         in-range = in-range;
         actions = 0;
-        after = unfold stretch in refl;
+        after = unfold series in refl;
         links =
             record {
               room = known .room;
@@ -91,9 +91,9 @@ module _ {s : List ℕ} {j : Job} {first : Pair} {column : ℕ} where
 
     module _ (step : Acted) (acts : moveOf step ≡ act (tablesOf s) p column) where
       -- It is the next action of the walk, in the tables of the walk.
-      leads-on : {found : Acted} → step ≡ found → stretch t column (walk .actions + 1) first ≡ moveOf found
+      leads-on : {found : Acted} → step ≡ found → series t column (walk .actions + 1) first ≡ moveOf found
       leads-on {found} is =
-          stretch-more t column (walk .actions) first p (moveOf found) (walk .after)
+          series-more t column (walk .actions) first p (moveOf found) (walk .after)
           (rw (tables-are s j (walk .opened)) (sym acts ∙ ap moveOf is))
 
       -- It ends the run.
@@ -131,7 +131,7 @@ module _ {s : List ℕ} {j : Job} {first : Pair} {column : ℕ} where
               let goal : judged (tablesOf s) w column ≡ judged t w column =
               ap (λ (u : Tables). judged u w column) (sym (tables-are s j (walk .opened))) in
               let end =
-              stretch-more t column (walk .actions + 1) first (pair q w) (ends (judged t w column)) (leads-on is)
+              series-more t column (walk .actions + 1) first (pair q w) (ends (judged t w column)) (leads-on is)
               (act-final t (pair q w) column (eq-eqb _ _ final)) in
               walked (e ∙ ap (λ (y : Ending). fateEntry (ended y 0)) (judges ∙ goal)
               ∙ told asked (ends-fate t (asked .well-formed) column (asked .column-in) (walk .actions + 1 + 1) first _ (asked .in-range) end))

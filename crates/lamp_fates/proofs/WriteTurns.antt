@@ -11,7 +11,7 @@ use lib.ListN.{length, getD, set, length-set}
 use Rattle.lamp_line.specs.Tables.{Tables}
 use Rattle.lamp_line.specs.Run.{Pair}
 use Rattle.run_laws.specs.inner.Pairs.{InRange, pairNumber, pairs}
-use Rattle.fate_laws.specs.inner.Stretches.{stretch}
+use Rattle.fate_laws.specs.inner.Series.{series}
 use Rattle.lamp_fates.specs.declared.Fate.{Fate}
 use Rattle.lamp_fates.specs.inner.Memory.{walkTo, fateFrom, entryPlace, remembered, UnknownOrRight, Memory, LookedUp}
 use Rattle.lamp_fates.specs.inner.Links.{After, Link, Stands, Linked, WalkedTo}
@@ -92,7 +92,7 @@ module _
         number-is = began .number-is;
         from = 0;
         below = walked .actions;
-        after = unfold stretch in refl;
+        after = unfold series in refl;
         links = walked .links;
       }
 

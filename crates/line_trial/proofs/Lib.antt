@@ -1,3 +1,3 @@
-pub mod LastStretch
+pub mod LastLeg
 pub mod LineTried
 pub mod TryingEnds

@@ -1,5 +1,5 @@
 // Trying one line of the check's search (01, "The check") from one of its members, with every kind of end, the lowest first (02, (c)). The
-// line's lamps but the last led to the pair of that member, so only its last stretch is looked at.
+// line's lamps but the last led to the pair of that member, so only its last leg is looked at.
 ghost use mathlib.Core.Path.{_≡_};
 ghost use mathlib.Core.Bool.{_&&_};
 ghost use Prim.Native.Nat.{_*_, _≤_, _<_};
@@ -22,9 +22,9 @@ use lamp_line::WorldState;
 use pair_bits::is_set;
 use working_list::list::unpack;
 
-// Where the last stretch of a line begins: with a pair at the column of its last lamp, or of its end if it is empty; nowhere, if there is
+// Where the last leg of a line begins: with a pair at the column of its last lamp, or of its end if it is empty; nowhere, if there is
 // no such line.
-pub enum Stretch {
+pub enum Leg {
     Nowhere,
     From(ProgramState, WorldState, u8),
 }
@@ -37,9 +37,9 @@ pub enum Tried {
     New(ProgramState, WorldState),
 }
 
-// Where the last stretch begins of the line that is tried from a member with this end. With kind 0 the line is empty, and the member is a
+// Where the last leg begins of the line that is tried from a member with this end. With kind 0 the line is empty, and the member is a
 // start. With any other kind its lamps but the last led to the pair that the list has at the member's place.
-fn last_stretch(
+fn last_leg(
     file: &[u8],
     job: Job,
     list: &[u32],
@@ -48,7 +48,7 @@ fn last_stretch(
     member: usize,
     kind: u8,
     end: u8,
-) -> Stretch
+) -> Leg
     requires { ⌜ Opened (now file) job × Listed (tablesBy (now file) job) (now list) (now words) count
         × HasMember (tablesBy (now file) job) count member kind × (end ≤ job .ends) ⌝ }
     ensures { λ r. ⌜ Begins (tablesBy (now (file .entry)) job) (table (tablesBy (now (file .entry)) job) (now (list .entry)) count)
@@ -58,14 +58,14 @@ fn last_stretch(
         let start = WorldState(member as u8);
         let first = job.first;
         if is_start(file, job, start) {
-            return Stretch::From(first, start, end);
+            return Leg::From(first, start, end);
         }
-        return Stretch::Nowhere;
+        return Leg::Nowhere;
     }
     let before = unpack(list[member]);
     let state = before.state;
     let world = before.world;
-    Stretch::From(state, world, lamp_column(job, kind))
+    Leg::From(state, world, lamp_column(job, kind))
 }
 
 // Whether a line is at the lowest end with a pair that is in the list already. The lowest end is tried first, so there is no need to ask
@@ -99,8 +99,8 @@ fn try_end(
     ensures { λ r. ⌜ TriesEnd (tablesBy (now (file .entry)) job) (table (tablesBy (now (file .entry)) job) (now (list .entry)) count)
         member kind end (now (words .entry)) r (now (memory .exit)) ⌝ }
 {
-    let stretch = last_stretch(file, job, list, words, count, member, kind, end);
-    let Stretch::From(first, start, lamp) = stretch else {
+    let leg = last_leg(file, job, list, words, count, member, kind, end);
+    let Leg::From(first, start, lamp) = leg else {
         return Tried::Nothing;
     };
     let mut state = first;

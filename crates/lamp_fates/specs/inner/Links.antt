@@ -9,7 +9,7 @@ use Rattle.lamp_line.specs.Tables.{Tables, columnCount}
 use Rattle.lamp_line.specs.inner.WellFormed.{WellFormed}
 use Rattle.lamp_line.specs.Run.{Pair, stays, lampWalk}
 use Rattle.run_laws.specs.inner.Pairs.{InRange, pairNumber}
-use Rattle.fate_laws.specs.inner.Stretches.{stretch}
+use Rattle.fate_laws.specs.inner.Series.{series}
 use Rattle.lamp_fates.specs.inner.Memory.{fateEntry, memorySize, remembered, UnknownOrRight}
 
 module _ (t : Tables) (first : Pair) (column : ℕ) where
@@ -21,7 +21,7 @@ module _ (t : Tables) (first : Pair) (column : ℕ) where
 
   -- i actions lead from the first pair to p, and all of them stay at the lamp.
   abbrev pub After : ℕ → Pair → Type 0
-  After i p = stretch t column i first ≡ stays p
+  After i p = series t column i first ≡ stays p
 
   -- The entry v is the link of the pair after i actions: it names the pair after one more.
   pub record Link (i v : ℕ) : Type 0 where

@@ -4,7 +4,7 @@ use borrow.Author.Needs.{needs}
 use mathlib.Core.Path.{_≡_, refl, _∙_}
 use native.Mathlib.Omega.{arith}
 use lib.ListN.{length}
-use Rattle.line_trial.proofs.LastStretch.{begins-nowhere, begins-from}
+use Rattle.line_trial.proofs.LastLeg.{begins-nowhere, begins-from}
 use Rattle.line_trial.proofs.TryingEnds.{Trying, bit-in-words}
 use Rattle.line_trial.proofs.TryingEnds.{tries-met, tries-failing, tries-ending, tries-succeeding, passes-lamp, tries-on}
 use Rattle.line_trial.proofs.try_end.Statement.{statement}
@@ -19,8 +19,8 @@ abbrev μ-loop : tie.MeasureT-loop
 
 -- ---- earlier points of the function
 
--- From the stretch to the start.
-abbrev start : tie.After-last-stretch Inv-loop μ-loop → tie.Start Inv-loop μ-loop
+-- From the leg to the start.
+abbrev start : tie.After-last-leg Inv-loop μ-loop → tie.Start Inv-loop μ-loop
 start s = s .before .before .before .before .before
 
 -- From where a fate is looked at to where it was found, to the test before it, to the loop.
@@ -35,11 +35,11 @@ at-loop m = m .before .before
 
 -- ---- the answers
 
-last-stretch-requires : tie.Need-last-stretch-requires Inv-loop μ-loop
-last-stretch-requires c κs = search needs
+last-leg-requires : tie.Need-last-leg-requires Inv-loop μ-loop
+last-leg-requires c κs = search needs
 
-enum-known-stretch : tie.Need-enum-known-stretch Inv-loop μ-loop
-enum-known-stretch c = search needs
+enum-known-leg : tie.Need-enum-known-leg Inv-loop μ-loop
+enum-known-leg c = search needs
 
 enum-told : tie.Need-enum-told Inv-loop μ-loop
 enum-told c = search needs
@@ -47,7 +47,7 @@ enum-told c = search needs
 returns : tie.Need-returns Inv-loop μ-loop
 returns c =
     let s = c .before .before in
-    record { so = begins-nowhere (s .last-stretch .ensures) (c .enum-told .given .1); remembers = start s .pre .0 .remembers }
+    record { so = begins-nowhere (s .last-leg .ensures) (c .enum-told .given .1); remembers = start s .pre .0 .remembers }
 
 loop-holds : tie.Need-loop-holds Inv-loop μ-loop
 loop-holds c =
@@ -59,7 +59,7 @@ loop-holds c =
         listed = b .pre .1;
         is-end = b .pre .3;
         below = b .pre .4;
-        goes = begins-from (s .last-stretch .ensures) (g .stretch .given .1);
+        goes = begins-from (s .last-leg .ensures) (g .leg .given .1);
       },
       refl,
     )
@@ -149,8 +149,8 @@ try-end-spec =
     (tie.spec
     Inv-loop
     μ-loop
-    last-stretch-requires
-    enum-known-stretch
+    last-leg-requires
+    enum-known-leg
     enum-told
     returns
     loop-holds

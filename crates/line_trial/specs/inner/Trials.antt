@@ -16,8 +16,8 @@ use Rattle.lamp_fates.specs.inner.Memory.{Memory}
 use Rattle.search_laws.specs.inner.Entries.{Entry}
 use Rattle.check_laws.specs.inner.Fates.{fate, atEnds}
 use Rattle.check_laws.specs.inner.Search.{fails-at, quiet, finds, visited, visit, atLamp, tried}
-use Rattle.line_trial.specs.declared.Stretch.{Stretch}
-use Rattle.line_trial.specs.declared.Stretch.the-variants.{Nowhere, From}
+use Rattle.line_trial.specs.declared.Leg.{Leg}
+use Rattle.line_trial.specs.declared.Leg.the-variants.{Nowhere, From}
 use Rattle.line_trial.specs.declared.Tried.{Tried}
 use Rattle.line_trial.specs.declared.Tried.the-variants.{Fails, Nothing, New}
 
@@ -46,13 +46,13 @@ pub record Goes (t : Tables) (E : List Entry) (member kind end : ℕ) (p : Pair)
   pub column-range : column < columnCount t
   pub going : Going t E member kind end (pairNumber (t .worlds) p) column
 
--- What the answer on the last stretch says of trying the line.
-abbrev BeginsSo : Tables → List Entry → ℕ → ℕ → ℕ → Stretch → Type 0
+-- What the answer on the last leg says of trying the line.
+abbrev BeginsSo : Tables → List Entry → ℕ → ℕ → ℕ → Leg → Type 0
 BeginsSo t E member kind end Nowhere = tried t E member kind ≡ quiet
 BeginsSo t E member kind end (From state world column) = Goes t E member kind end (pair state world) column
 
--- `last_stretch` answered r for this member, kind and end.
-pub record Begins (t : Tables) (E : List Entry) (member kind end : ℕ) (r : Stretch) : Type 0 where
+-- `last_leg` answered r for this member, kind and end.
+pub record Begins (t : Tables) (E : List Entry) (member kind end : ℕ) (r : Leg) : Type 0 where
   pub so : BeginsSo t E member kind end r
 
 -- The lower ends were tried: the line fails with none of them, and if there is one, the pair with which it reaches its end is new.

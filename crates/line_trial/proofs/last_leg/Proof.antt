@@ -6,9 +6,9 @@ use Rattle.lamp_line.specs.Tables.{Tables, worldState}
 use Rattle.job_file.proofs.WellFormed.{tables-are, well-formed-by}
 use Rattle.run_laws.proofs.Pairs.{pairs-few}
 use Rattle.working_list.proofs.ListLaws.{count-fits}
-use Rattle.line_trial.proofs.LastStretch.{start-unmarked, start-marked, lamp-column-small, lamp-begins}
-use Rattle.line_trial.proofs.last_stretch.Statement.{statement}
-use Rattle.line_trial.proofs.last_stretch.Tie as tie
+use Rattle.line_trial.proofs.LastLeg.{start-unmarked, start-marked, lamp-column-small, lamp-begins}
+use Rattle.line_trial.proofs.last_leg.Statement.{statement}
+use Rattle.line_trial.proofs.last_leg.Tie as tie
 
 -- ---- earlier points of the function
 
@@ -78,8 +78,8 @@ returns-3 c =
     let b = start (e .before) in
     lamp-begins (b .pre .1) (b .pre .2) (omega (arith, e .if1 .left)) (u .unpack .ensures) (c .lamp-column .ensures)
 
-pub last-stretch-spec : {M : Type 1} → statement M
-last-stretch-spec =
+pub last-leg-spec : {M : Type 1} → statement M
+last-leg-spec =
     tie.close
     (tie.spec
     cast-t15

@@ -1,4 +1,4 @@
--- Where the line that is tried from a member begins its last stretch.
+-- Where the line that is tried from a member begins its last leg.
 use mathlib.Core.Path.{_≡_, refl, sym, ap, subst, _∙_}
 use mathlib.Core.Bool.{true, false}
 use mathlib.Core.List.{List}
@@ -17,8 +17,8 @@ use Rattle.check_laws.specs.inner.Search.{quiet, atStart, atLamp, tried}
 use Rattle.check_laws.proofs.TableGraph.{start-in-range}
 use Rattle.check_laws.proofs.TriedLines.{empty-line-tried, lamp-line-tried}
 use Rattle.working_list.specs.declared.Placed.{Placed}
-use Rattle.line_trial.specs.declared.Stretch.{Stretch}
-use Rattle.line_trial.specs.declared.Stretch.the-variants.{Nowhere, From}
+use Rattle.line_trial.specs.declared.Leg.{Leg}
+use Rattle.line_trial.specs.declared.Leg.the-variants.{Nowhere, From}
 use Rattle.working_list.specs.inner.Placing.{unpacked}
 use Rattle.working_list.specs.inner.Listing.{table, Listed}
 use Rattle.line_trial.specs.inner.Trials.{HasMember, at-lamp, at-end, Goes, Begins}
@@ -70,7 +70,7 @@ lamp-begins {t} {list} {words} {n} {member} {kind} listed has lamp is is-column 
 
 -- ---- the answer, case by case
 
-module _ {t : Tables} {E : List Entry} {member kind end : ℕ} {r : Stretch} (begins : Begins t E member kind end r) where
+module _ {t : Tables} {E : List Entry} {member kind end : ℕ} {r : Leg} (begins : Begins t E member kind end r) where
   -- There is no line.
   pub begins-nowhere : r ≡ Nowhere → tried t E member kind ≡ quiet
   begins-nowhere e = subst (Begins t E member kind end) e begins .so

@@ -1,4 +1,4 @@
--- Stretches of actions at one column, for the laws of fates: the result of at most n actions in a row, as one move.
+-- Series of actions at one column, for the laws of fates: the result of at most n actions in a row, as one move.
 use Prim.Native.Nat.{ℕ, zero, suc}
 use Rattle.lamp_line.specs.Tables.{Tables}
 use Rattle.lamp_line.specs.Run.{Pair, Move, ends, stays, passes, act}
@@ -11,6 +11,6 @@ next (passes p) more = passes p
 
 module _ (t : Tables) (c : ℕ) where
   -- The result of n actions at the column c, or of fewer if one of them ends the run or passes the lamp.
-  unfoldable pub stretch : ℕ → Pair → Move
-  stretch zero p = stays p
-  stretch (suc n) p = next (act t p c) (λ p′. stretch n p′)
+  unfoldable pub series : ℕ → Pair → Move
+  series zero p = stays p
+  series (suc n) p = next (act t p c) (λ p′. series n p′)
