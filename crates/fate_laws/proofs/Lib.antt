@@ -1,3 +1,4 @@
 pub mod Fates
+pub mod RunFates
 pub mod Series
 pub mod StepFates

@@ -14,24 +14,26 @@ module _ (D : ActionTheory) (P : Plan) where
   -- ---- an execution step by step
 
   -- An execution with its first step outermost.
-  data Chain : List Label → P .State → D .Situation → P .State → D .Situation → Type 0 where
+  pub data Chain : List Label → P .State → D .Situation → P .State → D .Situation → Type 0 where
     done : {q : P .State} {s : D .Situation} → Chain [] q s q s
     first :
         {l : Label} {ls : List Label} {q q″ q′ : P .State} {s s″ s′ : D .Situation} →
         Step D P q s l q″ s″ → Chain ls q″ s″ q′ s′ → Chain (l ∷ ls) q s q′ s′
 
-  chain-append :
+  -- Two chains, one after the other.
+  pub chain-append :
       {ls ms : List Label} {q q″ q′ : P .State} {s s″ s′ : D .Situation} →
       Chain ls q s q″ s″ → Chain ms q″ s″ q′ s′ → Chain (ls ++ ms) q s q′ s′
   chain-append done b = b
   chain-append (first x a) b = first x (chain-append a b)
 
-  execution→chain : {ls : List Label} {q q′ : P .State} {s s′ : D .Situation} → T* D P ls q s q′ s′ → Chain ls q s q′ s′
+  -- Each execution is a chain, and each chain an execution.
+  pub execution→chain : {ls : List Label} {q q′ : P .State} {s s′ : D .Situation} → T* D P ls q s q′ s′ → Chain ls q s q′ s′
   execution→chain here = done
   execution→chain (join a b) = chain-append (execution→chain a) (execution→chain b)
   execution→chain (step x) = first x done
 
-  chain→execution : {ls : List Label} {q q′ : P .State} {s s′ : D .Situation} → Chain ls q s q′ s′ → T* D P ls q s q′ s′
+  pub chain→execution : {ls : List Label} {q q′ : P .State} {s s′ : D .Situation} → Chain ls q s q′ s′ → T* D P ls q s q′ s′
   chain→execution done = here
   chain→execution (first x a) = join (step x) (chain→execution a)
 
