@@ -23,7 +23,7 @@ use Rattle.job_layout.specs.JobTables.{tablesOf}
 use Rattle.job_file.specs.declared.Reading.the-variants as reading
 use Rattle.job_file.specs.Reading.{fileRefusals, readingOf}
 use Rattle.plan_check.specs.CheckAnswers.{checkRefusals}
-use Rattle.line_run.specs.RunAnswers.{runRefusals}
+use Rattle.line_refusals.specs.LineRefusals.{lineRefusals}
 use Rattle.lamp_walk.specs.WalkAnswers.{walkRefusals}
 use Rattle.lamp_walk.specs.declared.WalkAnswer.the-variants as walk
 use Rattle.lamp_walk.specs.WalkAnswers.{walkAnswer}
@@ -181,7 +181,7 @@ refusals-shown =
           by-refusals walk.Refused walkWord refused-empty (walkRefusals s q w column) refl _
           (walked-shown (lampWalk (tablesOf s) (pair q w) column));
       of-run = λ s start line limit.
-          by-refusals run.Refused runWord refused-empty (runRefusals s start line) refl _
+          by-refusals run.Refused runWord refused-empty (lineRefusals s start line) refl _
           (ran-shown (limited limit (lineRun (tablesOf s) start line)));
       of-check = λ s n before after word.
           rw (word .as-number)

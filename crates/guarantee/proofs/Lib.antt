@@ -5,4 +5,3 @@ pub mod ReplayDecides
 pub mod RunsAfterCheck
 pub mod RunsDecide
 pub mod ShortCheckDecides
-pub mod Unrefused

@@ -16,13 +16,13 @@ use Rattle.job_layout.specs.JobTables.{tablesOf}
 use Rattle.job_tables.proofs.Ranges.{well-formed}
 use Rattle.lamp_walk.proofs.WalkLoop.{few-steps}
 use Rattle.guarantee.specs.CheckPromises.{RunEnds, AcceptedRuns, FailedRuns}
-use Rattle.guarantee.proofs.Unrefused.{UnrefusedRun}
+use Rattle.line_refusals.proofs.Unrefused.{UnrefusedLine}
 use Rattle.guarantee.proofs.RunsDecide.{ends-so, few-counted}
 use Rattle.guarantee.proofs.CheckMeans.{accepted-means, failed-means}
 
 -- An ending of the execution is that of the run.
 pub run-ends :
-    {s : List ℕ} {start : WorldState} {line : Line} → UnrefusedRun s start line → (x : Ending) →
+    {s : List ℕ} {start : WorldState} {line : Line} → UnrefusedLine s start line → (x : Ending) →
     Leads (lampProblem (tablesOf s)) (planOf (tablesOf s)) x (tablesOf s .first) (situation start line) →
     RunEnds s start line x
 run-ends {s} {start} {line} unrefused x leads =

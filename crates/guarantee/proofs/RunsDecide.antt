@@ -27,10 +27,10 @@ use Rattle.job_tables.proofs.Ranges.{states-are, worlds-are, well-formed}
 use Rattle.lamp_walk.proofs.WalkLoop.{few-steps}
 use Rattle.line_run.specs.declared.RunAnswer.the-variants as answer
 use Rattle.line_run.specs.RunAnswers.{runAnswerOf, runAnswer}
-use Rattle.line_run.proofs.RunLoop.{line-not-wrong}
+use Rattle.line_refusals.proofs.LineLaws.{line-not-wrong}
 use Rattle.line_run.proofs.RunRefusals.{run-by-refusals}
 use Rattle.guarantee.specs.RunPromises.{RunEndsExactly, RunStopsExactly, RunCirclesExactly, RunIsBounded, Deterministic, WalkIsExecution}
-use Rattle.guarantee.proofs.Unrefused.{UnrefusedRun, unrefused-run}
+use Rattle.line_refusals.proofs.Unrefused.{UnrefusedLine, unrefused-line}
 
 -- ---- the limit: an ending is within it, and Stopped means that the ending is beyond it
 
@@ -48,7 +48,7 @@ stops-beyond limit k n x false e h = (cc, leb-false k limit e)
 
 -- ---- a run that is not refused
 
-module _ {s : List ℕ} {start : WorldState} {line : Line} (unrefused : UnrefusedRun s start line) where
+module _ {s : List ℕ} {start : WorldState} {line : Line} (unrefused : UnrefusedLine s start line) where
   abbrev defined : Run
   defined = run (tablesOf s) start line
 
@@ -118,19 +118,19 @@ module _ {s : List ℕ} {start : WorldState} {line : Line} (unrefused : Unrefuse
 
 pub run-ends-exactly : RunEndsExactly
 run-ends-exactly s start line not-refused limit x k =
-    let unrefused = unrefused-run s start line not-refused in (
+    let unrefused = unrefused-line s start line not-refused in (
       λ h. let (e, k≤) = ended-so unrefused limit x k h in (comes unrefused x k .0 e, k≤),
       λ (c, k≤). ends-so unrefused limit x k (comes unrefused x k .1 c) k≤,
     )
 
 pub run-stops-exactly : RunStopsExactly
 run-stops-exactly s start line not-refused limit n =
-    let unrefused = unrefused-run s start line not-refused in
+    let unrefused = unrefused-line s start line not-refused in
     (stopped-so unrefused limit n, λ (is-limit, beyond). stops-so unrefused limit n is-limit beyond)
 
 pub run-circles-exactly : RunCirclesExactly
 run-circles-exactly s start line not-refused =
-    let unrefused = unrefused-run s start line not-refused in
+    let unrefused = unrefused-line s start line not-refused in
     let decides =
     circles-forever (tablesOf s) (well-formed s (head s) (unrefused .opened)) start line (unrefused .beginning) in (
       λ (k, h). decides .0 (k, ended-so unrefused 4294967295 (Failure Circles) k h .0),
@@ -140,7 +140,7 @@ run-circles-exactly s start line not-refused =
 
 pub run-bounded : RunIsBounded
 run-bounded s start line not-refused limit x k h =
-    let unrefused = unrefused-run s start line not-refused in
+    let unrefused = unrefused-line s start line not-refused in
     run-is-bounded (tablesOf s) start line x k (ended-so unrefused limit x k h .0)
 
 pub deterministic : Deterministic

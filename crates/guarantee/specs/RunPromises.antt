@@ -21,13 +21,14 @@ use Rattle.job_layout.specs.declared.Job.{Job}
 use Rattle.job_layout.specs.JobTables.{tablesOf}
 use Rattle.job_file.specs.Reading.{Opened}
 use Rattle.line_run.specs.declared.RunAnswer.the-variants as answer
-use Rattle.line_run.specs.RunAnswers.{runRefusals, runAnswer}
+use Rattle.line_refusals.specs.LineRefusals.{lineRefusals}
+use Rattle.line_run.specs.RunAnswers.{runAnswer}
 
 -- ---- the run
 
 -- A statement about every run that is not refused, from a start along a line.
 abbrev OfEveryRun : (List ℕ → WorldState → Line → Type 0) → Type 0
-OfEveryRun Says = (s : List ℕ) (start : WorldState) (line : Line) → refusal (runRefusals s start line) ≡ none → Says s start line
+OfEveryRun Says = (s : List ℕ) (start : WorldState) (line : Line) → refusal (lineRefusals s start line) ≡ none → Says s start line
 
 -- An ending with k steps is answered exactly when the execution reaches that ending with k counted steps and the limit allows k.
 abbrev pub RunEndsExactly : Type 0

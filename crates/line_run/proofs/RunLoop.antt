@@ -1,21 +1,17 @@
 -- The loop of the run: k steps are counted up to this lamp, the pair is in range, the lamps left are of the job's kinds, and the
 -- rest of the whole run is the run from here.
 use mathlib.Core.Path.{_≡_, refl, sym, ap, _∙_}
-use mathlib.Core.Bool.{true, false}
+use mathlib.Core.Bool.{true}
 use mathlib.Core.List.{List, [], _∷_}
 use Prim.Native.Nat.{ℕ, _+_, _-_, _≤_, _<_}
-use native.Mathlib.Decide.{decLt}
 use native.Mathlib.Omega.{arith}
-use borrow.Author.Tests.{leb-false, ltb-false, le-leb, lt-leb, lt-ltb, le-ltb}
-use lib.Dec.{leb, ltb}
 use lib.ListN.{length, getD, take, drop, length-drop}
 use lib.Seq.{take-all}
 use Rattle.lamp_line.specs.declared.ProgramState.{ProgramState}
 use Rattle.lamp_line.specs.declared.WorldState.{WorldState}
 use Rattle.lamp_line.specs.declared.Ending.{Ending}
-use Rattle.lamp_line.specs.Tables.{Tables, Line, lineOf, endKinds, lampColumn, columns, columnOf, column, Kinds, Fits}
+use Rattle.lamp_line.specs.Tables.{lineOf, lampColumn, columns, columnOf, column, Kinds, Fits}
 use Rattle.job_layout.specs.Layout.{jobColumns}
-use Rattle.lamp_line.specs.Refusals.{some-of}
 use Rattle.lamp_line.specs.Run.{Pair, pair, arrived, ran, lampWalk, along, run, limited}
 use Rattle.lamp_line.proofs.Columns.{lamp-column-in}
 use Rattle.run_laws.specs.inner.Pairs.{InRange}
@@ -24,10 +20,8 @@ use Rattle.run_laws.proofs.Walks.{arrived-in-range, arrived-at-lamp}
 use Rattle.run_laws.proofs.LoopLaws.{RunOwes, run-owes-start, run-owes-passes, run-owes-ends, run-owes-stopped}
 use Rattle.job_layout.specs.declared.Job.{Job}
 use Rattle.job_layout.specs.JobTables.{tablesBy, tablesOf}
-use Rattle.job_layout.specs.FileRefusals.{outside}
-use Rattle.head_refusals.proofs.HeadLaws.{neither}
 use Rattle.job_file.specs.Reading.{Opened}
-use Rattle.line_run.specs.RunAnswers.{lineWrong, runAnswerOf}
+use Rattle.line_run.specs.RunAnswers.{runAnswerOf}
 use Rattle.job_file.proofs.WellFormed.{tables-are, well-formed-by}
 use Rattle.job_tables.proofs.Ranges.{worlds-are, ends-are, first-is, well-formed}
 use Rattle.lamp_walk.specs.declared.Walked.{Walked}
@@ -36,56 +30,7 @@ use Rattle.lamp_walk.specs.inner.Walking.{walkOf}
 use Rattle.line_run.specs.declared.RunAnswer.{RunAnswer}
 use Rattle.line_run.specs.declared.RunAnswer.the-variants as answer
 
--- ---- lines of a job
-
--- If no lamp has a kind outside 1 to `kinds`, the line is of the job's kinds.
-right-kinds : (kinds : ℕ) (lamps : List ℕ) → some-of lamps (outside 1 kinds) ≡ false → Kinds kinds lamps
-unfolding some-of Kinds
-right-kinds kinds [] e = tt
-right-kinds kinds (kind ∷ lamps) e =
-    let both = neither (outside 1 kinds kind) _ e in
-    let bounds = neither (ltb kind 1) (ltb kinds kind) (both .0) in
-    (ltb-false _ _ (bounds .0), ltb-false _ _ (bounds .1), right-kinds kinds lamps (both .1))
-
--- A line to which refusal 15 does not apply is one of the job's lines.
-pub line-right : (t : Tables) (line : Line) → lineWrong (t .ends) (t .kinds) line ≡ false → Fits t line
-line-right t line e =
-    let to-end = neither _ (leb (endKinds (t .ends)) (line .end)) e in
-    let to-kinds = neither (ltb 65535 (length (line .lamps))) _ (to-end .0) in
-    record {
-      of-kinds = right-kinds (t .kinds) (line .lamps) (to-kinds .1);
-      ended = leb-false _ _ (to-end .1);
-    }
-
--- It has at most 65,535 lamps.
-pub line-few : (t : Tables) (line : Line) → lineWrong (t .ends) (t .kinds) line ≡ false → length (line .lamps) ≤ 65535
-line-few t line e = ltb-false _ _ (neither (ltb 65535 (length (line .lamps))) _ (neither _ _ e .0) .0)
-
--- The converse: in a line of these kinds no lamp has a kind outside 1 to `kinds`.
-none-outside : (kinds : ℕ) (lamps : List ℕ) → Kinds kinds lamps → some-of lamps (outside 1 kinds) ≡ false
-unfolding some-of Kinds
-none-outside kinds [] k = refl
-none-outside kinds (kind ∷ lamps) (low, high, rest) =
-    rw (le-ltb kind 1 low, le-ltb kinds kind high) (none-outside kinds lamps rest)
-
--- Refusal 15 does not apply to a line of the job that is not too long.
-pub line-not-wrong :
-    (t : Tables) (line : Line) → length (line .lamps) ≤ 65535 → Fits t line → lineWrong (t .ends) (t .kinds) line ≡ false
-line-not-wrong t line few fits =
-    rw (
-      le-ltb 65535 (length (line .lamps)) few,
-      none-outside (t .kinds) (line .lamps) (fits .of-kinds),
-      lt-leb (endKinds (t .ends)) (line .end) (fits .ended),
-    )
-
--- The end's kind is not below E exactly when it is above the highest kind.
-pub not-an-end : (ends end : ℕ) → ltb ends end ≡ leb (endKinds ends) end
-unfolding endKinds
-not-an-end ends end = by (decLt ends end)
-  where
-    by : Dec (ends < end) → ltb ends end ≡ leb (ends + 1) end
-    by (yes above) = lt-ltb ends end above ∙ sym (le-leb (ends + 1) end (omega arith))
-    by (no below) = le-ltb ends end (omega arith) ∙ sym (lt-leb (ends + 1) end (omega arith))
+-- ---- the rest of a line
 
 -- The lamps after the first are of these kinds too.
 kinds-after : (kinds : ℕ) (lamps : List ℕ) → Kinds kinds lamps → Kinds kinds (drop 1 lamps)

@@ -1,36 +1,25 @@
 -- What the run answers, refusal by refusal.
-use mathlib.Core.Path.{_≡_, refl, sym, _∙_}
-use mathlib.Core.Bool.{Bool, true, false, cond, not, _||_, or-true}
+use mathlib.Core.Path.{_≡_, sym, _∙_}
+use mathlib.Core.Bool.{Bool, true, false, cond, not}
 use mathlib.Core.List.{List}
 use Prim.Native.Nat.{ℕ}
-use borrow.Author.Tests.{lt-leb, not-false}
-use lib.Dec.{leb}
 use Rattle.lamp_line.specs.declared.WorldState.{WorldState}
-use Rattle.lamp_line.specs.Tables.{Tables, Line, Fits}
-use Rattle.lamp_line.specs.inner.WellFormed.{WellFormed}
+use Rattle.lamp_line.specs.Tables.{Line}
 use Rattle.lamp_line.specs.Run.{run, limited}
 use Rattle.lamp_line.proofs.Answering.{by-refusal, by-no-refusal}
 use Rattle.job_layout.specs.declared.Job.{Job}
-use Rattle.job_layout.specs.JobTables.{tablesBy, tablesOf}
+use Rattle.job_layout.specs.JobTables.{tablesOf}
 use Rattle.job_file.specs.declared.Reading.{Reading}
 use Rattle.job_file.specs.declared.Reading.the-variants as reading
 use Rattle.job_file.specs.Reading.{readingOf, Opened}
 use Rattle.job_file.specs.inner.ReaderSteps.{refusalOf}
-use Rattle.line_run.specs.RunAnswers.{startUnmarked, lineWrong}
+use Rattle.line_refusals.specs.LineRefusals.{lineWrong}
+use Rattle.line_refusals.proofs.LineLaws.{unmarked-is}
 use Rattle.job_file.proofs.Opening.{reading-refused, file-refused, file-opened}
 use Rattle.job_tables.proofs.Ranges.{kinds-are, ends-are, well-formed}
 use Rattle.line_run.specs.declared.RunAnswer.{RunAnswer}
 use Rattle.line_run.specs.declared.RunAnswer.the-variants as answer
 use Rattle.line_run.specs.RunAnswers.{runAnswerOf, runAnswer}
-use Rattle.line_run.proofs.RunLoop.{line-right}
-
--- A marked start is below W, so refusal 14 applies exactly when the start is not marked.
-unmarked-is : (t : Tables) → WellFormed t → (start : WorldState) → startUnmarked t start ≡ not (t .start start)
-unmarked-is t wf start = by (t .start start) refl
-  where
-    by : (b : Bool) → t .start start ≡ b → (leb (t .worlds) (start .0) || not b) ≡ not b
-    by true e = rw (lt-leb _ _ (wf .formed .start-range start e))
-    by false e = or-true (leb (t .worlds) (start .0))
 
 abbrev refusedIf : Bool → ℕ → RunAnswer → RunAnswer
 refusedIf applies number otherwise = cond applies (answer.Refused number) otherwise
@@ -45,17 +34,6 @@ unfolding runAnswer
 run-by-refusals s start line limit {j} opened =
     rw (kinds-are s j opened, ends-are s j opened)
     (file-opened answer.Refused s _ _ j opened ∙ (by-refusal _ _ _ _ _ ∙ rw (by-refusal, by-no-refusal, unmarked-is _ (well-formed s j opened) start)))
-
--- What the two tests have found, where neither applies.
-pub start-is-marked :
-    (s : List ℕ) (start : WorldState) {marked : Bool} → marked ≡ tablesOf s .start start → not marked ≡ false →
-    tablesOf s .start start ≡ true
-start-is-marked s start is e = sym is ∙ not-false _ e
-
-pub line-is-right :
-    (s : List ℕ) (j : Job) (line : Line) {wrong : Bool} → wrong ≡ lineWrong (j .ends) (j .kinds) line → wrong ≡ false →
-    Fits (tablesBy s j) line
-line-is-right s j line is e = line-right (tablesBy s j) line (sym is ∙ e)
 
 -- The answer, given what the code has read.
 module _ {x : Reading} (s : List ℕ) (start : WorldState) (line : Line) (limit : ℕ) (read : x ≡ readingOf s) where

@@ -4,12 +4,10 @@ ghost use mathlib.Core.Bool.{true};
 ghost use Prim.Native.Nat.{_≤_};
 ghost use Rattle.lamp_line.specs.Tables.{lineOf, columnOf, Kinds, Fits};
 ghost use Rattle.job_layout.specs.Layout.{jobColumns};
-ghost use Rattle.lamp_line.specs.Refusals.{some-of};
 ghost use Rattle.lamp_line.specs.Run.{ran, run, limited};
 ghost use Rattle.job_layout.specs.JobTables.{tablesBy, tablesOf};
-ghost use Rattle.job_layout.specs.FileRefusals.{outside};
 ghost use Rattle.job_file.specs.Reading.{Opened};
-ghost use Rattle.line_run.specs.RunAnswers.{lineWrong, runAnswerOf, runAnswer};
+ghost use Rattle.line_run.specs.RunAnswers.{runAnswerOf, runAnswer};
 use job_file::Reading;
 use job_file::read_job;
 use job_file::refusal_number;
@@ -20,33 +18,13 @@ use lamp_line::Ending;
 use lamp_line::WorldState;
 use lamp_walk::Walked;
 use lamp_walk::walk_in_job;
+use line_refusals::line_wrong;
 
 // What a run answers: its ending with the steps counted, Stopped with the limit, or a refusal.
 pub enum RunAnswer {
     Ended(Ending, u32),
     Stopped(u32),
     Refused(u8),
-}
-
-// Some lamp of the line has a kind outside 1 to `kinds`.
-fn any_outside(line: &[u8], kinds: u8) -> bool
-    ensures { λ r. ⌜ r ≡ some-of (now (line .entry)) (outside 1 kinds) ⌝ }
-{
-    let mut i = 0;
-    while i < line.len() {
-        let kind = line[i];
-        if (kind < 1) | (kinds < kind) {
-            return true;
-        }
-        i += 1;
-    }
-    false
-}
-
-fn line_wrong(line: &[u8], end: u8, job: Job) -> bool
-    ensures { λ r. ⌜ r ≡ lineWrong (job .ends) (job .kinds) (lineOf end (now (line .entry))) ⌝ }
-{
-    (65535 < line.len()) | any_outside(line, job.kinds) | (job.ends < end)
 }
 
 // The column at which the rest of the line begins: that of its first lamp, or of the line's end.

@@ -1,7 +1,8 @@
 -- The reader's refusal is handed on; then each test is the next refusal's.
 use borrow.Author.Needs.{needs}
 use Rattle.job_file.proofs.Opening.{opened-by}
-use Rattle.line_run.proofs.RunRefusals.{start-is-marked, line-is-right, run-file-refused, run-start-refused, run-line-refused, run-answered}
+use Rattle.line_refusals.proofs.LineLaws.{start-is-marked, line-is-right}
+use Rattle.line_run.proofs.RunRefusals.{run-file-refused, run-start-refused, run-line-refused, run-answered}
 use Rattle.line_run.proofs.run_line.Statement.{statement}
 use Rattle.line_run.proofs.run_line.Tie as tie
 

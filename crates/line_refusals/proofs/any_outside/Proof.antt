@@ -5,8 +5,8 @@ use Prim.Native.Nat.{_-_}
 use lib.ListN.{length}
 use Rattle.lamp_line.proofs.Scan.{NoneBefore, none-before-start, none-before-more, list-scan-finds, list-scan-ends}
 use Rattle.job_layout.specs.FileRefusals.{outside}
-use Rattle.line_run.proofs.any_outside.Statement.{statement}
-use Rattle.line_run.proofs.any_outside.Tie as tie
+use Rattle.line_refusals.proofs.any_outside.Statement.{statement}
+use Rattle.line_refusals.proofs.any_outside.Tie as tie
 
 abbrev Inv-loop : tie.InvT-loop
 Inv-loop line kinds i₀ i = NoneBefore (outside 1 kinds) line i

@@ -1,8 +1,8 @@
 -- The three tests are the definition's: an end kind that is not below E is above the highest.
 use borrow.Author.Needs.{needs}
-use Rattle.line_run.proofs.RunLoop.{not-an-end}
-use Rattle.line_run.proofs.line_wrong.Statement.{statement}
-use Rattle.line_run.proofs.line_wrong.Tie as tie
+use Rattle.line_refusals.proofs.LineLaws.{not-an-end}
+use Rattle.line_refusals.proofs.line_wrong.Statement.{statement}
+use Rattle.line_refusals.proofs.line_wrong.Tie as tie
 
 any-outside-requires : tie.Need-any-outside-requires
 any-outside-requires c κs = search needs
