@@ -6,6 +6,7 @@ use mathlib.Core.Option.{Option}
 use mathlib.Core.List.{List, [], _∷_}
 use Prim.Native.Nat.{ℕ, _+_, _≤_, _<_}
 use lib.Dec.{eqb}
+use lib.ListN.{drop}
 use Rattle.plans.specs.Plan.{Action, Result, ActionTheory, PlanningProblem, Plan}
 use Rattle.lamp_line.specs.declared.ProgramState.{ProgramState}
 use Rattle.lamp_line.specs.declared.WorldState.{WorldState}
@@ -90,14 +91,9 @@ columnOf ends end (kind ∷ lamps) = lampColumn ends kind
 abbrev pub column : Tables → Line → ℕ
 column t line = columnOf (t .ends) (line .end) (line .lamps)
 
--- The lamps after the first.
-abbrev lampsAfter : List ℕ → List ℕ
-lampsAfter [] = []
-lampsAfter (kind ∷ lamps) = lamps
-
 -- The line after its first lamp is passed.
 abbrev pub passed : Line → Line
-passed line = record { lamps = lampsAfter (line .lamps); end = line .end }
+passed line = record { lamps = drop 1 (line .lamps); end = line .end }
 
 -- The line after an action: without its first lamp if the action moves on.
 abbrev pub restAfter : Tables → Action → Line → Line

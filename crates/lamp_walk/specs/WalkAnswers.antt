@@ -16,8 +16,7 @@ use Rattle.lamp_walk.specs.declared.WalkAnswer.the-variants as answer
 -- column that the tables do not have; 16, a program state above S.
 abbrev pub walkRefusals : List ℕ → ProgramState → WorldState → ℕ → List Refusal
 walkRefusals s q w column =
-    fileRefusals s
-    ++ (14 when leb (tablesOf s .worlds) (w .0)) ∷ (15 when leb (columnCount (tablesOf s)) column)
+    fileRefusals s ++ (14 when leb (tablesOf s .worlds) (w .0)) ∷ (15 when leb (columnCount (tablesOf s)) column)
     ∷ (16 when ltb (tablesOf s .states) (q .0)) ∷ []
 
 -- A walk as an answer.
