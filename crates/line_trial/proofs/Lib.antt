@@ -1,3 +1,4 @@
 pub mod LastLeg
 pub mod LineTried
+pub mod NewPairs
 pub mod TryingEnds

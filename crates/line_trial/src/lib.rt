@@ -1,5 +1,6 @@
 // Trying one line of the check's search (01, "The check") from one of its members, with every kind of end, the lowest first (02, (c)). The
-// line's lamps but the last led to the pair of that member, so only its last leg is looked at.
+// line's lamps but the last led to the pair of that member, so only its last leg is looked at. A new pair that it finds is put in the working
+// list; the pairs that are found by one line stand together there, as a group (02, (f)).
 ghost use mathlib.Core.Path.{_≡_};
 ghost use mathlib.Core.Bool.{_&&_};
 ghost use Prim.Native.Nat.{_*_, _≤_, _<_};
@@ -7,9 +8,11 @@ ghost use lib.Dec.{eqb};
 ghost use lib.ListN.{length};
 ghost use Rattle.job_layout.specs.JobTables.{tablesBy};
 ghost use Rattle.job_file.specs.Reading.{Opened};
+ghost use Rattle.lamp_fates.specs.inner.Memory.{Memory};
 ghost use Rattle.pair_bits.specs.Sum.{bitAt};
 ghost use Rattle.working_list.specs.inner.Listing.{table, Listed};
 ghost use Rattle.line_trial.specs.inner.Trials.{Ready, HasMember, Begins, TriedBelow, TriesEnd, TriesLine};
+ghost use Rattle.line_trial.specs.inner.Turning.{Turned};
 use job_layout::Job;
 use job_layout::places::lamp_column;
 use job_tables::is_start;
@@ -20,6 +23,9 @@ use lamp_line::FailureKind;
 use lamp_line::ProgramState;
 use lamp_line::WorldState;
 use pair_bits::is_set;
+use pair_bits::set_bit;
+use working_list::Placed;
+use working_list::list::pack;
 use working_list::list::unpack;
 
 // Where the last leg of a line begins: with a pair at the column of its last lamp, or of its end if it is empty; nowhere, if there is
@@ -35,6 +41,13 @@ pub enum Tried {
     Fails(FailureKind, u8),
     Nothing,
     New(ProgramState, WorldState),
+}
+
+// What comes of trying a line from a member and keeping what it finds: the line fails, and this is the lowest kind of end with which it does,
+// or the list now holds this many pairs.
+pub enum MemberEnd {
+    Fails(FailureKind, u8),
+    Holds(usize),
 }
 
 // Where the last leg begins of the line that is tried from a member with this end. With kind 0 the line is empty, and the member is a
@@ -126,9 +139,8 @@ fn try_end(
     }
 }
 
-// Tries a line with one kind of end after the other, the lowest first. The function is for the search in the crate above and not for users: it
-// asks for the job that the reader answered for this file, for a memory of fates in its tables, and for a list that the search has made.
-pub fn try_line(
+// Tries a line with one kind of end after the other, the lowest first.
+fn try_line(
     file: &[u8],
     job: Job,
     memory: &mut [u16],
@@ -153,5 +165,48 @@ pub fn try_line(
             return Tried::New(state, world);
         }
         end += 1;
+    }
+}
+
+// Tries a line from one member. A new pair is put in the list, if the line is still clean: if it has failed from no member before this one.
+// Before the line was tried from its first member, the list held `before` pairs; the first pair after them opens a group. The function is
+// for the search in the crate above and not for users: it asks for the job that the reader answered for this file, for a memory of fates
+// in its tables, and for a list that the search has made.
+pub fn try_member(
+    file: &[u8],
+    job: Job,
+    memory: &mut [u16],
+    list: &mut [u32],
+    words: &mut [u64],
+    before: usize,
+    count: usize,
+    member: usize,
+    kind: u8,
+    clean: bool,
+) -> MemberEnd
+    requires { ⌜ Ready (now file) job (now memory) × Listed (tablesBy (now file) job) (now list) (now words) count
+        × HasMember (tablesBy (now file) job) count member kind ⌝ }
+    ensures { λ r. ⌜ Turned (tablesBy (now (file .entry)) job) (now (list .entry)) count before member kind clean r
+        (now (list .exit)) (now (words .exit)) × Memory (tablesBy (now (file .entry)) job) (now (memory .exit)) ⌝ }
+{
+    let tried = try_line(file, job, memory, list, words, count, member, kind);
+    match tried {
+        Tried::Fails(failure, end) => MemberEnd::Fails(failure, end),
+        Tried::Nothing => MemberEnd::Holds(count),
+        Tried::New(state, world) => {
+            if clean {
+                set_bit(words, pair_number(state, world, job.worlds));
+                let placed = Placed {
+                    state: state,
+                    world: world,
+                    member: member,
+                    kind: kind,
+                    opens: count == before,
+                };
+                list[count] = pack(placed);
+                return MemberEnd::Holds(count + 1);
+            }
+            MemberEnd::Holds(count)
+        }
     }
 }

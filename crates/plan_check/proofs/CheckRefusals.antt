@@ -29,9 +29,9 @@ use Rattle.check_laws.proofs.VerdictRight.{verdict-right}
 use Rattle.check_laws.proofs.UpTo.{beyond-exactly}
 use Rattle.lamp_fates.specs.inner.Memory.{memorySize}
 use Rattle.lamp_fates.proofs.BlankMemory.{entries-most}
-use Rattle.line_naming.specs.declared.Found.{Found}
-use Rattle.line_naming.specs.declared.Found.the-variants as found
-use Rattle.line_naming.specs.inner.Finding.{Room, Finds}
+use Rattle.line_finding.specs.declared.Found.{Found}
+use Rattle.line_finding.specs.declared.Found.the-variants as found
+use Rattle.line_finding.specs.inner.Finding.{Room, Finds}
 use Rattle.run_laws.proofs.Pairs.{pairs-few}
 use Rattle.plan_check.specs.declared.Outcome.{Outcome}
 use Rattle.plan_check.specs.declared.Outcome.the-variants as outcome

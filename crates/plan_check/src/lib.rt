@@ -11,10 +11,10 @@ use job_file::refusal_number;
 use job_layout::places::column_count;
 use lamp_line::FailureKind;
 use lamp_line::WorldState;
-use line_naming::Found;
-use sized_search::find_large;
-use sized_search::find_middle;
-use sized_search::find_small;
+use line_finding::Found;
+use line_finding::find_large;
+use line_finding::find_middle;
+use line_finding::find_small;
 
 // A failure: its kind, and the start, the number of lamps and the kind of end of its line. The lamps themselves are in the line buffer.
 pub struct Failure {

@@ -19,9 +19,9 @@ use Rattle.working_list.proofs.ListLaws.{count-fits, table-length}
 use Rattle.run_laws.proofs.Pairs.{pairs-few}
 use Rattle.line_trial.proofs.TryingEnds.{ready-tables}
 use Rattle.line_trial.specs.inner.Trials.{Ready, HasMember}
-use Rattle.member_trial.specs.declared.MemberEnd.{MemberEnd}
-use Rattle.member_trial.specs.declared.MemberEnd.the-variants.{Fails, Holds}
-use Rattle.member_trial.specs.inner.Turning.{Grows, stays, adds, Keeps, grows, was-quiet, was-new, Turned}
+use Rattle.line_trial.specs.declared.MemberEnd.{MemberEnd}
+use Rattle.line_trial.specs.declared.MemberEnd.the-variants.{Fails, Holds}
+use Rattle.line_trial.specs.inner.Turning.{Grows, stays, adds, Keeps, grows, was-quiet, was-new, Turned}
 use Rattle.plan_search.specs.declared.SearchEnd.{SearchEnd}
 use Rattle.plan_search.specs.declared.SearchEnd.the-variants.{AtLine}
 

@@ -6,8 +6,8 @@ use Rattle.lamp_line.specs.Tables.{Tables}
 use Rattle.lamp_line.specs.Check.{Accepts}
 use Rattle.lamp_line.specs.ShortCheck.{NoneUpTo}
 use Rattle.job_layout.specs.JobTables.{tablesOf}
-use Rattle.line_naming.specs.declared.Found.{Found}
-use Rattle.line_naming.specs.declared.Found.the-variants as found
+use Rattle.line_finding.specs.declared.Found.{Found}
+use Rattle.line_finding.specs.declared.Found.the-variants as found
 use Rattle.plan_check.specs.declared.Outcome.{Outcome}
 use Rattle.plan_check.specs.declared.Outcome.the-variants as outcome
 use Rattle.plan_check.specs.declared.CheckAnswer.{CheckAnswer}

@@ -10,8 +10,8 @@ use Rattle.lamp_line.specs.Check.{failed}
 use Rattle.run_laws.specs.inner.Pairs.{pairs}
 use Rattle.check_laws.specs.inner.Search.{verdictOf}
 use Rattle.plan_search.specs.inner.Searching.{NoneMet}
-use Rattle.line_naming.specs.declared.Found.{Found}
-use Rattle.line_naming.specs.declared.Found.the-variants as found
+use Rattle.line_finding.specs.declared.Found.{Found}
+use Rattle.line_finding.specs.declared.Found.the-variants as found
 
 -- Refusals 12 and 13 do not apply.
 pub record Room (t : Tables) (line list words : ℕ) : Type 0 where

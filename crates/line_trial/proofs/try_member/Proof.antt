@@ -3,10 +3,10 @@ use borrow.Author.Needs.{needs}
 use mathlib.Core.Path.{refl}
 use native.Mathlib.Omega.{arith}
 use Rattle.job_layout.specs.JobTables.{tablesBy}
-use Rattle.member_trial.proofs.NewPairs.{NewPair, new-pair, few-pairs, list-has-room, bit-has-room, packable, nothing-new, pair-placed, pair-passed}
+use Rattle.line_trial.proofs.NewPairs.{NewPair, new-pair, few-pairs, list-has-room, bit-has-room, packable, nothing-new, pair-placed, pair-passed}
 use Rattle.line_trial.proofs.LineTried.{tries-fails, tries-nothing}
-use Rattle.member_trial.proofs.try_member.Statement.{statement}
-use Rattle.member_trial.proofs.try_member.Tie as tie
+use Rattle.line_trial.proofs.try_member.Statement.{statement}
+use Rattle.line_trial.proofs.try_member.Tie as tie
 
 -- ---- earlier points of the function
 

@@ -7,8 +7,8 @@ use Rattle.lamp_line.specs.Tables.{Tables}
 use Rattle.search_laws.specs.inner.Entries.{Entry, grown}
 use Rattle.check_laws.specs.inner.Search.{fails-at, quiet, finds, tried, lineEntry}
 use Rattle.working_list.specs.inner.Listing.{table, Listed}
-use Rattle.member_trial.specs.declared.MemberEnd.{MemberEnd}
-use Rattle.member_trial.specs.declared.MemberEnd.the-variants.{Fails, Holds}
+use Rattle.line_trial.specs.declared.MemberEnd.{MemberEnd}
+use Rattle.line_trial.specs.declared.MemberEnd.the-variants.{Fails, Holds}
 
 -- The table after a line was tried from a member from which it does not fail: nothing is new, or a pair was found.
 pub data Grows (t : Tables) (E : List Entry) (before member kind : ℕ) (E′ : List Entry) : Type 0 where

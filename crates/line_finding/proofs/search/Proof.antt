@@ -3,9 +3,9 @@ use borrow.Author.Needs.{needs}
 use mathlib.Core.Path.{sym}
 use native.Mathlib.Omega.{arith}
 use Rattle.line_trial.proofs.TryingEnds.{ready-tables}
-use Rattle.line_naming.proofs.Naming.{finds-none, words-held, taken-size, lamps-few, writable, finds-line}
-use Rattle.line_naming.proofs.search.Statement.{statement}
-use Rattle.line_naming.proofs.search.Tie as tie
+use Rattle.line_finding.proofs.Naming.{finds-none, words-held, taken-size, lamps-few, writable, finds-line}
+use Rattle.line_finding.proofs.search.Statement.{statement}
+use Rattle.line_finding.proofs.search.Tie as tie
 
 -- ---- earlier points of the function
 

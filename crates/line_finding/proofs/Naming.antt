@@ -15,11 +15,11 @@ use Rattle.check_laws.specs.inner.Search.{lineLamps}
 use Rattle.check_laws.proofs.VerdictRight.{failing-short}
 use Rattle.plan_search.specs.declared.SearchEnd.{SearchEnd}
 use Rattle.plan_search.specs.declared.SearchEnd.the-variants.{NoneFails, AtLine}
-use Rattle.line_naming.specs.declared.Found.the-variants as found
+use Rattle.line_finding.specs.declared.Found.the-variants as found
 use Rattle.working_list.specs.inner.Placing.{entries, MemberOf, Chained, Written}
 use Rattle.working_list.specs.inner.Listing.{table}
 use Rattle.plan_search.specs.inner.Searching.{LineMet, Searched}
-use Rattle.line_naming.specs.inner.Finding.{Finds}
+use Rattle.line_finding.specs.inner.Finding.{Finds}
 use Rattle.working_list.proofs.LineLoops.{same-lamps}
 
 -- No line fails: nothing is written.

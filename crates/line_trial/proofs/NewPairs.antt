@@ -24,17 +24,17 @@ use Rattle.search_laws.specs.inner.Entries.{entry, grown}
 use Rattle.check_laws.specs.inner.Search.{quiet, tried, met, lineStart, lineLamps, lineEntry}
 use Rattle.check_laws.proofs.MetPairs.{met-new, met-other}
 use Rattle.working_list.specs.declared.Placed.{Placed}
 use Rattle.line_trial.specs.declared.Tried.{Tried}
 use Rattle.line_trial.specs.declared.Tried.the-variants as tried-as
-use Rattle.member_trial.specs.declared.MemberEnd.the-variants.{Holds}
+use Rattle.line_trial.specs.declared.MemberEnd.the-variants.{Holds}
 use Rattle.working_list.specs.inner.Placing.{packed, unpacked, Packable, placedPair, MemberOf}
 use Rattle.working_list.specs.inner.Listing.{table, Listed}
 use Rattle.line_trial.specs.inner.Trials.{Ready, HasMember, EndsNew, TriesLine}
-use Rattle.member_trial.specs.inner.Turning.{adds, grows, was-quiet, was-new, stays, Turned}
+use Rattle.line_trial.specs.inner.Turning.{adds, grows, was-quiet, was-new, stays, Turned}
 use Rattle.working_list.proofs.EntryLaws.{unpacked-packed, entries-stored}
 use Rattle.working_list.proofs.ListLaws.{table-length, room-left}
 use Rattle.line_trial.proofs.TryingEnds.{ready-tables}
 use Rattle.line_trial.proofs.LineTried.{tries-new}
 
 -- Nothing is new: the list stays as it is.
 pub nothing-new :

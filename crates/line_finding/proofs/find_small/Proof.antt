@@ -1,8 +1,8 @@
 -- The memory is new and holds no fate yet.
 use borrow.Author.Needs.{needs}
 use Rattle.lamp_fates.proofs.BlankMemory.{blank-memory}
-use Rattle.sized_search.proofs.find_small.Statement.{statement}
-use Rattle.sized_search.proofs.find_small.Tie as tie
+use Rattle.line_finding.proofs.find_small.Statement.{statement}
+use Rattle.line_finding.proofs.find_small.Tie as tie
 
 -- From the call of the search to the start.
 abbrev start : tie.After-search-arg3 → tie.Start
