@@ -1,5 +1,6 @@
 -- The invariant is `Running`; the measure is the number of lamps left.
 use borrow.Author.Needs.{needs}
+use native.Mathlib.Omega.{arith}
 use lib.ListN.{length}
 use Rattle.lamp_line.specs.Run.{pair}
 use Rattle.job_tables.proofs.Ranges.{columns-few}
@@ -12,6 +13,16 @@ Inv-loop file job line end limit rest₀ q₀ w₀ k₀ rest q w k = Running fil
 
 abbrev μ-loop : tie.MeasureT-loop
 μ-loop file job line end limit rest₀ q₀ w₀ k₀ rest q w k = length rest
+
+-- From a passed lamp to the walk at it, to the loop, and to the start.
+abbrev walked : tie.After-known-told2 Inv-loop μ-loop → tie.After-walk-in-job Inv-loop μ-loop
+walked c = c .before .before .before
+
+abbrev at-loop : tie.After-walk-in-job Inv-loop μ-loop → tie.At-loop Inv-loop μ-loop
+at-loop c = c .before .before
+
+abbrev start : tie.At-loop Inv-loop μ-loop → tie.Start Inv-loop μ-loop
+start c = c .before .before .before .before
 
 loop-holds : tie.Need-loop-holds Inv-loop μ-loop
 loop-holds c = search running-start
@@ -47,7 +58,10 @@ add-k : tie.Need-add-k Inv-loop μ-loop
 add-k c = search needs
 
 returns-2 : tie.Need-returns-2 Inv-loop μ-loop
-returns-2 c = search running-stopped
+returns-2 c =
+    let w = walked (c .before) in
+    running-stopped (start (at-loop w) .pre .0) (at-loop w .loop .inv) (w .walk-in-job .result) (w .before .column-of .ensures)
+    (w .walk-in-job .ensures) (c .before .before .walked2 .given .1) (omega arith)
 
 sub-rest : tie.Need-sub-rest Inv-loop μ-loop
 sub-rest c = search running-at-lamp
