@@ -14,12 +14,12 @@ use Rattle.lamp_line.specs.declared.ProgramState.{ProgramState}
 use Rattle.lamp_line.specs.declared.WorldState.{WorldState}
 use Rattle.lamp_line.specs.Lists.{_∈_}
 use Rattle.lamp_line.specs.Tables.{Outcome, outcome, worldState, movesOn, endKinds}
-use Rattle.job_layout.specs.Layout.{jobColumns, byte, head, markPlace, nextPlace, resultPlace, actionPlace, targetPlace}
 use Rattle.lamp_line.specs.inner.WellFormed.{WellFormed}
 use Rattle.lamp_line.specs.Refusals.{some-below}
 use Rattle.lamp_line.proofs.Members.{only-member}
 use Rattle.lamp_line.proofs.Scan.{none-at, some-at}
 use Rattle.job_layout.specs.declared.Job.{Job}
+use Rattle.job_layout.specs.Layout.{jobColumns, byte, head, markPlace, nextPlace, resultPlace, actionPlace, targetPlace}
 use Rattle.job_layout.specs.JobTables.{outcomes, tablesBy, tablesOf}
 use Rattle.job_layout.specs.inner.Laid.{Laid}
 use Rattle.job_layout.specs.FileRefusals.{differs, notBit, isSet, cellWrongIn, cellWrongAt, legalAt, legalAtEnd, movesOnAtEnd, actionWrongAt, targetWrongAt, rowWrong}

@@ -7,8 +7,8 @@ use Prim.Native.Nat.{ℕ}
 use lib.Dec.{eqb, ltb}
 use Rattle.lamp_line.specs.declared.ProgramState.{ProgramState}
 use Rattle.lamp_line.specs.Tables.{Outcome, outcome, Tables, programState, worldState}
-use Rattle.job_layout.specs.Layout.{jobColumns, byte, head, markPlace, nextPlace, resultPlace, startPlace, goalPlace, actionPlace, targetPlace}
 use Rattle.job_layout.specs.declared.Job.{Job}
+use Rattle.job_layout.specs.Layout.{jobColumns, byte, head, markPlace, nextPlace, resultPlace, startPlace, goalPlace, actionPlace, targetPlace}
 
 -- Part 2: a cell with result 255 is not legal, so it has no outcome. Any other has one.
 abbrev pub outcomes : ℕ → ℕ → List Outcome

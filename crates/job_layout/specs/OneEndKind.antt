@@ -11,10 +11,10 @@ use Rattle.plans.specs.Plan.{Action}
 use Rattle.lamp_line.specs.declared.WorldState.{WorldState}
 use Rattle.lamp_line.specs.Lists.{_≼_}
 use Rattle.lamp_line.specs.Tables.{Line, lineOf, endKinds, column, Kinds, Fits, worldState}
-use Rattle.job_layout.specs.Layout.{jobColumns, byte, head, cellsLength, goalLength, markPlace, nextPlace, goalPlace}
 use Rattle.lamp_line.specs.Refusals.{some-below}
 use Rattle.lamp_line.specs.Check.{rank}
 use Rattle.job_layout.specs.declared.Job.{Job}
+use Rattle.job_layout.specs.Layout.{jobColumns, byte, head, cellsLength, goalLength, markPlace, nextPlace, goalPlace}
 use Rattle.job_layout.specs.JobTables.{tablesOf}
 use Rattle.job_layout.specs.FileRefusals.{outside, numberWrong, differs, movesOnAtEnd}
 
@@ -37,7 +37,7 @@ numberWrongBefore s j =
     || outside 0 64 (j .states) || outside 0 (j .states) (j .first .0)
     || outside 0 0 (byte s 6) || outside 0 0 (byte s 7)
 
--- 7: the action moves on, and is legal in column 0 in some world state.
+-- 7: the action moves on, and is legal in column 0 in some world state. Its mark is not 0, which after 5 is to say that it is 1.
 abbrev movesOnBefore : List ℕ → Job → ℕ → Bool
 movesOnBefore s j a =
     differs (byte s (markPlace j a)) 0 && some-below (j .worlds) (λ w. differs (byte s (nextPlaceBefore j a (worldState w) 0 + 1)) 255)

@@ -10,8 +10,8 @@ use Rattle.plans.specs.Plan.{Action, Result}
 use Rattle.lamp_line.specs.declared.ProgramState.{ProgramState}
 use Rattle.lamp_line.specs.declared.WorldState.{WorldState}
 use Rattle.lamp_line.specs.Tables.{Outcome, outcome, Tables, programState, worldState, movesOn}
-use Rattle.job_layout.specs.Layout.{jobColumns, byte, markPlace, nextPlace, resultPlace, startPlace, goalPlace, actionPlace, targetPlace}
 use Rattle.job_layout.specs.declared.Job.{Job}
+use Rattle.job_layout.specs.Layout.{jobColumns, byte, markPlace, nextPlace, resultPlace, startPlace, goalPlace, actionPlace, targetPlace}
 use Rattle.job_layout.specs.JobTables.{outcomes, branch, tablesOf}
 use Rattle.job_file.specs.Reading.{Opened}
 use Rattle.job_file.proofs.WellFormed.{tables-are, sound}

@@ -8,9 +8,9 @@ use Rattle.lamp_line.specs.declared.ProgramState.{ProgramState}
 use Rattle.lamp_line.specs.declared.WorldState.{WorldState}
 use Rattle.lamp_line.specs.Lists.{_∈_}
 use Rattle.lamp_line.specs.Tables.{Outcome, outcome}
-use Rattle.job_layout.specs.Layout.{jobColumns}
 use Rattle.lamp_line.specs.inner.WellFormed.{WellFormed}
 use Rattle.job_layout.specs.declared.Job.{Job}
+use Rattle.job_layout.specs.Layout.{jobColumns}
 use Rattle.job_layout.specs.JobTables.{tablesOf}
 use Rattle.job_layout.specs.inner.Laid.{Laid}
 use Rattle.job_file.specs.Reading.{Opened}

@@ -5,7 +5,6 @@
 // and for room for sixteen columns.
 ghost use Prim.Native.Nat.{_≤_, _<_};
 ghost use lib.ListN.{length};
-ghost use Rattle.lamp_line.specs.Tables.{columns};
 ghost use Rattle.job_layout.specs.Layout.{jobColumns};
 ghost use Rattle.job_layout.specs.JobTables.{tablesOf};
 ghost use Rattle.job_file.specs.Reading.{Opened};

@@ -1,5 +1,4 @@
--- The fate of a pair at a column, for the crate lamp_fates: what the one-lamp walk answers, without the steps that it counts; and what a
--- run answers without them.
+-- The fate of a pair at a column: what the one-lamp walk answers, without the steps that it counts. And the ending of a run, without its steps.
 use Rattle.lamp_line.specs.declared.Ending.{Ending}
 use Rattle.lamp_line.specs.Run.{Walk, ended, arrived, Run, ran}
 

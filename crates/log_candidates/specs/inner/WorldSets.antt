@@ -10,9 +10,9 @@ use Rattle.plans.specs.Execution.{Label, did, actionOf, resultOf}
 use Rattle.lamp_line.specs.declared.WorldState.{WorldState}
 use Rattle.lamp_line.specs.Lists.{_∈_}
 use Rattle.lamp_line.specs.Tables.{outcome, Tables, worldState}
-use Rattle.job_layout.specs.Layout.{jobColumns}
 use Rattle.word_bits.specs.Bits.{hasBit}
 use Rattle.job_layout.specs.declared.Job.{Job}
+use Rattle.job_layout.specs.Layout.{jobColumns}
 use Rattle.log_laws.specs.inner.Candidates.{Candidates}
 use Rattle.log_candidates.specs.declared.LogEntry.{LogEntry}
 
