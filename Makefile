@@ -121,7 +121,7 @@ test-plain: $(BUILD)/selftest
 test-compare: $(BUILD)/compare
 	$(UNDER) $(BUILD)/compare $(COMPARED)
 
-# What users get: the samples, the command line, the program, the example, what make makes, and an installation.
+# What users get: the samples, the command line, the program, the example, what make makes, and an installation; and the table of cases.
 test-users: $(BIN)/lampline $(BIN)/street $(BUILD)/sample_line $(PROGRAM)
 	outside/users/samples $(PROGRAM) $(BIN)/lampline $(BUILD)/sample_line
 	outside/users/program $(PROGRAM)
@@ -129,6 +129,7 @@ test-users: $(BIN)/lampline $(BIN)/street $(BUILD)/sample_line $(PROGRAM)
 	outside/users/example $(BIN)/street
 	outside/users/building $(BUILD) $(BIN)
 	outside/users/install $(BUILD) $(BIN)
+	outside/users/cases
 
 # What is proved comes before, so that modes which are made at once do not prove it at once.
 test-long test-sanitize test-valgrind: | $(LIBRARY) $(PAIR_SUM) $(PROGRAM)

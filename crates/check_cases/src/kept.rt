@@ -1,9 +1,9 @@
 // Whether the lent buffers have kept what they must: the line buffer is lent full of 7s, the working list full of 9s, and the words with a
 // content that the case chooses.
-use case_printing::print_text;
+use crate::checking::Told;
 
 // Whether the line buffer still has its 7s from the given index on.
-pub fn line_kept(line: &[u8], from: usize) -> bool {
+fn line_kept(line: &[u8], from: usize) -> bool {
     let mut i = from;
     while i < line.len() {
         if line[i] != 7 {
@@ -38,16 +38,14 @@ fn words_kept(words: &[u64], content: u64) -> bool {
     true
 }
 
-// Whether what must be kept is kept.
-pub fn print_kept(kept: bool) {
-    if kept {
-        print_text(b", kept\n");
-        return;
+// Whether the bytes that must be kept are kept: after a refusal all that was lent, after a failure all bytes of the line buffer that follow the line,
+// and where no line fails the whole line buffer.
+pub fn is_kept(told: Told, line: &[u8], list: &[u32], words: &[u64], content: u64) -> bool {
+    if told.number == 0 {
+        return line_kept(line, 0);
     }
-    print_text(b", changed\n");
-}
-
-// After a refusal all that was lent is kept.
-pub fn print_all_kept(line: &[u8], list: &[u32], words: &[u64], content: u64) {
-    print_kept(line_kept(line, 0) & list_kept(list) & words_kept(words, content));
+    if told.number < 100 {
+        return line_kept(line, told.lamps);
+    }
+    line_kept(line, 0) & list_kept(list) & words_kept(words, content)
 }
