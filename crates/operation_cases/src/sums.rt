@@ -1,7 +1,4 @@
 // The sum of bits.
-ghost use mathlib.Core.Path.{_≡_};
-ghost use Prim.Native.Nat.{_≤_};
-ghost use lib.ListN.{length};
 ghost use Rattle.io.specs.Counts.{Counts};
 use pair_bits::sum_bits;
 use row_cases::printing::print_number;

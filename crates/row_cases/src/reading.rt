@@ -1,5 +1,4 @@
 // A row is read piece by piece, in the order in which tools/case_input writes it: numbers, and fields, which are lists of bytes.
-ghost use mathlib.Core.Path.{_≡_};
 ghost use Prim.Native.Nat.{_≤_};
 ghost use lib.ListN.{length};
 ghost use Rattle.io.specs.Counts.{Counts};
