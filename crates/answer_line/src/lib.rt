@@ -1,4 +1,6 @@
 // The program's line for a job file, as bytes (01, "Bench line G", last paragraph; 02, (c)). `answer_line` asks nothing of its caller.
+#![tactic(auto)]
+
 mod text;
 
 ghost use Rattle.std.specs.Prelude.{[], ◌∷◌, ◌++◌, ◌+◌, ◌≤◌, length};

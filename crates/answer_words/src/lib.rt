@@ -1,5 +1,7 @@
 // The answers of the operations as numbers for C: each function puts the fields of one operation's answer into one word. They are for the
 // exported functions in the crate above.
+#![tactic(auto)]
+
 ghost use Rattle.std.specs.Prelude.{◌≡◌};
 ghost use Rattle.answer_words.specs.AnswerWords.{answer_word, refused_word, read_word, ending_code, walk_word, run_word};
 ghost use Rattle.answer_words.specs.AnswerWords.{failed_word, check_word, short_word, cabinet_word, begin_word, action_word, report_word, replay_word, fill_word};

@@ -1,5 +1,7 @@
 // The bytes of the job file of bench line G (01, "Bench line G") and of its variant with five states: the jobs of the theorem, with which the
 // test programs compare theirs.
+#![tactic(auto)]
+
 ghost use Rattle.std.specs.Prelude.{◌≡◌, length};
 ghost use Rattle.bench_line.specs.BenchJobs.{G, G_five};
 

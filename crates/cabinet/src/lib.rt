@@ -1,5 +1,7 @@
 // The cabinet (01, "The cabinet"). `begin`, `next_action` and `report` are the operations. They ask nothing of their caller, and read only
 // the marks and the plan of a file that is not refused.
+#![tactic(auto)]
+
 ghost use Rattle.std.specs.Prelude.{◌≡◌, ◌<◌};
 ghost use Rattle.job_layout.specs.JobTables.{tables_of};
 ghost use Rattle.job_file.specs.Reading.{Opened};
@@ -12,14 +14,14 @@ use job_tables::{Target, moves_on, plan_action, plan_target};
 use lamp_line::{Cabinet, ProgramState};
 
 // Begin's answer: the cabinet's machine in its first state, or the number of a refusal.
-#[derive(Drop)]
+#[derive(Clone, Copy)]
 pub enum BeginAnswer {
     Begun(Cabinet),
     Refused(u8),
 }
 
 // The answer to a call for the action: the action, Ended in state S, or the number of a refusal.
-#[derive(Drop)]
+#[derive(Clone, Copy)]
 pub enum ActionAnswer {
     Action(u8),
     Ended,
@@ -27,7 +29,7 @@ pub enum ActionAnswer {
 }
 
 // A report's answer: the new state, or the number of a refusal with the old state.
-#[derive(Drop)]
+#[derive(Clone, Copy)]
 pub enum ReportAnswer {
     Taken(Cabinet),
     Refused(u8, Cabinet),

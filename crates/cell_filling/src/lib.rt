@@ -1,6 +1,8 @@
 // Cells from rules (02, (e)): the cells part of a job file, from a rules file. `fill_cells` is the operation; it asks nothing of its caller.
 //
 // At first no cell is legal; then the cells of each world state are filled.
+#![tactic(auto)]
+
 ghost use Rattle.std.specs.Prelude.{◌≡◌, false, length};
 ghost use Rattle.fluent_rules.specs.CellsPart.{cells_part, part_length};
 ghost use Rattle.rules_file.specs.RulesFile.{rules_of};
@@ -15,7 +17,7 @@ use rules_file::rules_wrong;
 use world_cells::{fill_world, write_cell};
 
 // What the generator answers: the part is filled, or the number of a refusal.
-#[derive(Drop)]
+#[derive(Clone, Copy)]
 pub enum FillAnswer {
     Filled,
     Refused(u8),

@@ -5,7 +5,7 @@ use row_cases::printing::{print_counted, print_failure, print_refused};
 
 // What a check tells. The number is 1 to 4 for a failure, whose start, lamps and kind of end follow; 100 and the refusal's number for a refusal; and 0
 // where no line fails, with the number of pairs for the full check, and for the short one with the number of lamps up to which none does.
-#[derive(Drop)]
+#[derive(Clone, Copy)]
 pub struct Told {
     pub number: u8,
     pub start: u8,

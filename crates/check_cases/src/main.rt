@@ -1,5 +1,7 @@
 // Both checks on the cases of operation_cases' table, which tools/case_input turns into rows of standard input: with lent buffers of given sizes, and on
 // the bench cases of 01 beside plain means. Prints a line for each row, with its name and the answer.
+#![tactic(auto)]
+
 mod checking;
 mod checks;
 mod comparing;

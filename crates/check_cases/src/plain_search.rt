@@ -27,7 +27,7 @@ fn run_number(answer: RunAnswer) -> u8 {
 }
 
 // A run of the search: its start, its kind of end, and the number of its line.
-#[derive(Drop)]
+#[derive(Clone, Copy)]
 pub struct Trial {
     pub start: u8,
     pub end: u8,

@@ -1,7 +1,7 @@
 // The numbers of a job that the plain search and the plain count need.
 
 // How many world states and kinds of lamp a job has, its first program state and its highest kind of end.
-#[derive(Drop)]
+#[derive(Clone, Copy)]
 pub struct Shape {
     pub worlds: u8,
     pub kinds: u8,

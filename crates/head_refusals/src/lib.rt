@@ -2,6 +2,8 @@
 //
 // These functions are for the reader in the crate above, and `ranges_wrong` for the test of rules files too; they are not for users:
 // `number_wrong` asks for a file that is long enough to have a head, which refusal 1 tests.
+#![tactic(auto)]
+
 ghost use Rattle.std.specs.Prelude.{◌≡◌, ◌≤◌, length};
 ghost use Rattle.job_layout.specs.FileRefusals.{outside, ranges_wrong, number_wrong, end_of, misplaced, place_wrong, differs, length_wrong};
 

@@ -1,4 +1,6 @@
 // The job file reader (01, "Job file"). `read_job` is the operation; it asks nothing of its caller.
+#![tactic(auto)]
+
 ghost use Rattle.std.specs.Prelude.{◌≡◌};
 ghost use Rattle.job_layout.specs.inner.Laid.{Laid};
 ghost use Rattle.job_file.specs.Reading.{reading_of};
@@ -12,7 +14,7 @@ use job_layout::head::read_head;
 use plan_refusals::{action_wrong, target_wrong};
 
 // What the reader answers: the job, or the number of a refusal.
-#[derive(Drop)]
+#[derive(Clone, Copy)]
 pub enum Reading {
     Job(Job),
     Refused(u8),

@@ -1,13 +1,15 @@
 // What the program does: it takes a job file from standard input and writes the line that `answer_line` makes of it to standard output. The
 // content of the line is proved in answer_line; this crate adds only reading and writing. Started with arguments, it answers nothing and
 // says how it is used.
+#![tactic(auto)]
+
 ghost use Rattle.std.specs.Prelude.{◌≤◌, length};
 
 use answer_line::answer_line;
 use libc::{STDERR_FILENO, STDIN_FILENO, STDOUT_FILENO};
 
 // How many bytes came before the input ended, the buffer was full or a read failed; and whether a read failed.
-#[derive(Drop)]
+#[derive(Clone, Copy)]
 struct Input {
     size: usize,
     failed: bool,

@@ -1,4 +1,6 @@
 // The layout of a job file (01, "Job file"): its head, and the places of its entries.
+#![tactic(auto)]
+
 use lamp_line::ProgramState;
 
 pub mod head;
@@ -6,7 +8,7 @@ pub mod places;
 
 // How many actions, world states, kinds of lamps, results and kinds of ends there are: A, W, C, R and E. Byte 6 of a file is E less one, so that E
 // may need nine bits.
-#[derive(Drop)]
+#[derive(Clone, Copy)]
 pub struct Sizes {
     pub actions: u8,
     pub worlds: u8,
@@ -16,7 +18,7 @@ pub struct Sizes {
 }
 
 // A part of the file: where it begins, and how many bytes it has.
-#[derive(Drop)]
+#[derive(Clone, Copy)]
 pub struct Part {
     pub offset: u16,
     pub length: u16,
@@ -25,7 +27,7 @@ pub struct Part {
 // What the reader answers for a file that is not refused: bytes 0 to 6, which are A, W, C, R, S, the first program state and E less
 // one, and the offset and length of each part. The program states are 0 to `states`, the kinds of lamps 1 to `kinds`, and the kinds of
 // ends 0 to `ends`.
-#[derive(Drop)]
+#[derive(Clone, Copy)]
 pub struct Job {
     pub actions: u8,
     pub worlds: u8,

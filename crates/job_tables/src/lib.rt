@@ -2,6 +2,8 @@
 //
 // These functions are for the crates above and not for users: each asks for the job that the reader answered for this file, and
 // for numbers within the table.
+#![tactic(auto)]
+
 ghost use Rattle.std.specs.Prelude.{◌≡◌, ◌<◌};
 ghost use Rattle.lamp_line.specs.Tables.{moves_on};
 ghost use Rattle.job_layout.specs.Layout.{job_columns};
@@ -14,14 +16,14 @@ use job_layout::places::{action_place, goal_place, mark_place, next_place, start
 use lamp_line::{ProgramState, WorldState};
 
 // A cell: the action is not legal there, or it leads to a world state and senses a result.
-#[derive(Drop)]
+#[derive(Clone, Copy)]
 pub enum Cell {
     NotLegal,
     Legal(WorldState, u8),
 }
 
 // A branch of the plan: none, or the target.
-#[derive(Drop)]
+#[derive(Clone, Copy)]
 pub enum Target {
     NoBranch,
     To(ProgramState),
@@ -37,7 +39,7 @@ pub fn moves_on(file: &[u8], job: Job, action: u8) -> bool
 }
 
 // The two bytes of a cell, whether it is legal or not: its next world state, and its result or 255.
-#[derive(Drop)]
+#[derive(Clone, Copy)]
 pub struct CellBytes {
     pub next: WorldState,
     pub result: u8,

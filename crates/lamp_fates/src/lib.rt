@@ -3,6 +3,8 @@
 //
 // While a walk stays at the lamp, it leaves at each pair a link to the next. When its fate is known, the links are followed from the
 // first pair on, and each is replaced by the fate. A walk that meets a link has come back to one of its own pairs, so it circles.
+#![tactic(auto)]
+
 ghost use Rattle.std.specs.Prelude.{◌≡◌, List, ℕ, ◌+◌, ◌*◌, ◌<◌};
 ghost use Rattle.job_layout.specs.Layout.{job_columns};
 ghost use Rattle.lamp_line.specs.Run.{pair, ended};
@@ -17,7 +19,7 @@ use lamp_line::{Ending, FailureKind, ProgramState, WorldState, failure_number};
 use lamp_walk::{Acted, judge, one_action};
 
 // The fate of a pair at a column: the run ends with the goal true, it fails, or a pair arrives at the next lamp.
-#[derive(Drop)]
+#[derive(Clone, Copy)]
 pub enum Fate {
     Succeeds,
     Fails(FailureKind),

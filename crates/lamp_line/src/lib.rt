@@ -1,13 +1,15 @@
 // The terms of 01 as types. Their meaning is defined in specs/.
+#![tactic(auto)]
+
 ghost use Rattle.std.specs.Prelude.{◌≡◌, ◌*◌};
 ghost use Rattle.lamp_line.specs.Endings.{kind_number};
 
 // 01, "The line and its tables": program states and world states are numbers of two different sorts. The types keep a value of one
 // sort from being used as the other, and only the function `row` of each type turns a value into a place in a table.
-#[derive(Drop)]
+#[derive(Clone, Copy)]
 pub struct ProgramState(pub u8);
 
-#[derive(Drop)]
+#[derive(Clone, Copy)]
 pub struct WorldState(pub u8);
 
 // Where the row with this number begins, in a table whose rows are `width` long.
@@ -36,7 +38,7 @@ impl WorldState {
 }
 
 // Failures 1 to 4 (01, "One run").
-#[derive(Drop)]
+#[derive(Clone, Copy)]
 pub enum FailureKind {
     NotLegal,
     NoBranch,
@@ -57,14 +59,14 @@ pub fn failure_number(kind: FailureKind) -> u8
 }
 
 // How a run ends (01, "One run").
-#[derive(Drop)]
+#[derive(Clone, Copy)]
 pub enum Ending {
     Goal,
     Failure(FailureKind),
 }
 
 // The state of the cabinet (01, "The cabinet"): its program state, and the number of lamps left.
-#[derive(Drop)]
+#[derive(Clone, Copy)]
 pub struct Cabinet {
     pub state: ProgramState,
     pub lamps: u16,

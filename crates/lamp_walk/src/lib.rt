@@ -1,5 +1,7 @@
 // The one-lamp walk (01, "One run"): from a program state and a world state at a column to the pair that arrives at the next lamp,
 // or to an ending, with the steps counted. `walk_lamp` is the operation; it asks nothing of its caller.
+#![tactic(auto)]
+
 ghost use Rattle.std.specs.Prelude.{◌≡◌, ◌+◌, ◌≤◌, ◌<◌};
 ghost use Rattle.job_layout.specs.Layout.{job_columns};
 ghost use Rattle.lamp_line.specs.Run.{judged, pair, own_steps, act, lamp_walk};
@@ -15,7 +17,7 @@ use job_tables::{Cell, Target, is_goal, moves_on, plan_action, plan_target, read
 use lamp_line::{Ending, FailureKind, ProgramState, WorldState};
 
 // What one action does: the run ends, goes on at the same lamp, or goes on at the next.
-#[derive(Drop)]
+#[derive(Clone, Copy)]
 pub enum Acted {
     Ends(Ending),
     Stays(ProgramState, WorldState),
@@ -23,14 +25,14 @@ pub enum Acted {
 }
 
 // A walk: the run ends, or a pair arrives at the next lamp. Either comes with the steps counted at this lamp.
-#[derive(Drop)]
+#[derive(Clone, Copy)]
 pub enum Walked {
     Ended(Ending, u32),
     Arrived(ProgramState, WorldState, u32),
 }
 
 // What the operation answers: the walk, or a refusal.
-#[derive(Drop)]
+#[derive(Clone, Copy)]
 pub enum WalkAnswer {
     Ended(Ending, u32),
     Arrived(ProgramState, WorldState, u32),

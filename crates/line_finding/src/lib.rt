@@ -3,6 +3,8 @@
 //
 // These functions are for the checks in the crate above and not for users: each asks for the job that the reader answered for this file, for
 // buffers with room, and for a job that its memory is large enough for.
+#![tactic(auto)]
+
 ghost use Rattle.std.specs.Prelude.{◌≤◌, length};
 ghost use Rattle.job_layout.specs.JobTables.{tables_by};
 ghost use Rattle.job_file.specs.Reading.{Opened};
@@ -17,7 +19,7 @@ use working_list::line::write_line;
 
 // What the search finds: no failure, and this number of pairs; or the failure kind with the start, the number of lamps and the kind of
 // end of its line.
-#[derive(Drop)]
+#[derive(Clone, Copy)]
 pub enum Found {
     NoneFails(u32),
     Fails(FailureKind, WorldState, u16, u8),

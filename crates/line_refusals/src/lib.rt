@@ -1,4 +1,6 @@
 // Refusals 14 and 15: the start and the line. The test for 14 is `is_start` of job_tables; the one for 15 asks nothing of its caller.
+#![tactic(auto)]
+
 ghost use Rattle.std.specs.Prelude.{◌≡◌};
 ghost use Rattle.lamp_line.specs.Tables.{line_of};
 ghost use Rattle.lamp_line.specs.Refusals.{some_of};

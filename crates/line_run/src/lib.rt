@@ -1,4 +1,6 @@
 // The run of one given line (01, "One run"). `run_line` is the operation; it asks nothing of its caller.
+#![tactic(auto)]
+
 ghost use Rattle.std.specs.Prelude.{◌≡◌, true, ◌≤◌};
 ghost use Rattle.lamp_line.specs.Tables.{line_of, column_of, Kinds, Fits};
 ghost use Rattle.job_layout.specs.Layout.{job_columns};
@@ -16,7 +18,7 @@ use lamp_walk::{Walked, walk_in_job};
 use line_refusals::line_wrong;
 
 // What a run answers: its ending with the steps counted, Stopped with the limit, or a refusal.
-#[derive(Drop)]
+#[derive(Clone, Copy)]
 pub enum RunAnswer {
     Ended(Ending, u32),
     Stopped(u32),

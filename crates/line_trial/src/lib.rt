@@ -1,6 +1,8 @@
 // Trying one line of the check's search (01, "The check") from one of its members, with every kind of end, the lowest first (02, (c)). The
 // line's lamps but the last led to the pair of that member, so only its last leg is looked at. A new pair that it finds is put in the working
 // list; the pairs that are found by one line stand together there, as a group (02, (f)).
+#![tactic(auto)]
+
 ghost use Rattle.std.specs.Prelude.{◌≡◌, ◌&&◌, ◌*◌, ◌≤◌, ◌<◌, eqb, length};
 ghost use Rattle.job_layout.specs.JobTables.{tables_by};
 ghost use Rattle.job_file.specs.Reading.{Opened};
@@ -21,7 +23,7 @@ use working_list::list::{pack, unpack};
 
 // Where the last leg of a line begins: with a pair at the column of its last lamp, or of its end if it is empty; nowhere, if there is
 // no such line.
-#[derive(Drop)]
+#[derive(Clone, Copy)]
 pub enum Leg {
     Nowhere,
     From(ProgramState, WorldState, u8),
@@ -29,7 +31,7 @@ pub enum Leg {
 
 // What comes of trying a line: it fails, and this is the lowest kind of end with which it does; nothing is new; or it reaches its end with
 // a new pair, and fails with no kind of end.
-#[derive(Drop)]
+#[derive(Clone, Copy)]
 pub enum Tried {
     Fails(FailureKind, u8),
     Nothing,
@@ -38,7 +40,7 @@ pub enum Tried {
 
 // What comes of trying a line from a member and keeping what it finds: the line fails, and this is the lowest kind of end with which it does,
 // or the list now holds this many pairs.
-#[derive(Drop)]
+#[derive(Clone, Copy)]
 pub enum MemberEnd {
     Fails(FailureKind, u8),
     Holds(usize),

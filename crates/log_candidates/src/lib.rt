@@ -3,6 +3,8 @@
 //
 // These functions are for the replay in the crate above and not for users: each asks for the job that the reader answered for the file,
 // and for room for sixteen columns.
+#![tactic(auto)]
+
 ghost use Rattle.std.specs.Prelude.{◌≤◌, ◌<◌, length};
 ghost use Rattle.job_layout.specs.Layout.{job_columns};
 ghost use Rattle.job_layout.specs.JobTables.{tables_of};
@@ -17,7 +19,7 @@ use lamp_line::WorldState;
 use word_bits::{lowest_bit, with_bit_if, without_lowest};
 
 // An entry of a log.
-#[derive(Drop)]
+#[derive(Clone, Copy)]
 pub struct LogEntry {
     pub action: u8,
     pub result: u8,

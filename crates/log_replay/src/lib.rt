@@ -3,6 +3,8 @@
 //
 // It goes through the log once and keeps the candidates, the world states and columns at which the cabinet can be. A column stays
 // what it is until its lamp is passed; then the next lamp may be of any kind.
+#![tactic(auto)]
+
 ghost use Rattle.std.specs.Prelude.{◌≡◌, false, ◌≤◌, ◌<◌, length};
 ghost use Rattle.job_layout.specs.JobTables.{tables_of};
 ghost use Rattle.job_file.specs.Reading.{Opened};
@@ -18,7 +20,7 @@ use lamp_line::ProgramState;
 use log_candidates::{LogEntry, advance, first_candidates, none_left};
 
 // What a replay answers: the log is possible, or the place of the first entry with which it is not, or a refusal.
-#[derive(Drop)]
+#[derive(Clone, Copy)]
 pub enum ReplayAnswer {
     Possible,
     ImpossibleAt(u16),

@@ -1,6 +1,8 @@
 // The operations as functions for C, with numbers and lent buffers only. `nessflurry_version` reports the version. Each of the others calls
 // the operation that it is named after, and answers what it answers as one number. They are called raw because the pointer of a slice
 // must not be NULL. C programs call the functions of include/nessflurry.h, which replace a NULL that has no elements by another pointer.
+#![tactic(auto)]
+
 ghost use Rattle.std.specs.Prelude.{◌≡◌, length};
 ghost use Rattle.lamp_line.specs.Tables.{program_state, world_state, line_of};
 ghost use Rattle.job_file.specs.Reading.{reading_of};

@@ -1,5 +1,7 @@
 // The operations, but for the checks, on the cases of cases.txt, which tools/case_input turns into rows of standard input: a line for each row, with
 // its name and the operation's answer.
+#![tactic(auto)]
+
 mod cabinets;
 mod cells;
 mod jobs;

@@ -2,6 +2,8 @@
 //
 // These functions are for the crates above and not for users. Those that clear, read and set ask for words that have room for the
 // bits; the sum asks for nothing.
+#![tactic(auto)]
+
 ghost use Rattle.std.specs.Prelude.{◌≡◌, ◌*◌, ◌<◌, ◌≤◌, length};
 ghost use Rattle.pair_bits.specs.Sum.{bit_at, SumIs};
 ghost use Rattle.pair_bits.specs.inner.Bits.{Cleared, OnlySet};

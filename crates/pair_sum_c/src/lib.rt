@@ -1,5 +1,7 @@
 // The sum of the pairs' bits as a function for C, for the tests and the benchmark of outside/. It is in a library of its own and not
 // among the operations: a check says nothing of what it leaves in the words, so its callers have nothing to sum.
+#![tactic(auto)]
+
 ghost use Rattle.pair_bits.specs.Sum.{SumIs};
 
 use pair_bits::sum_bits;

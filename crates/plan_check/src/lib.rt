@@ -1,6 +1,8 @@
 // The check (01, "The check"): does the plan reach the goal on all lines, however long and however they end, from all marked starts?
 // `check_plan` is the operation, and `check_up_to` is the short check (02, (b)), which looks at lines of up to a number of lamps only. Neither
 // asks anything of its caller. Both make the same search, with a memory that is small for a small job.
+#![tactic(auto)]
+
 ghost use Rattle.std.specs.Prelude.{◌≡◌};
 ghost use Rattle.plan_check.specs.CheckAnswers.{Checked};
 ghost use Rattle.plan_check.specs.ShortAnswers.{CheckedUpTo};
@@ -12,7 +14,7 @@ use lamp_line::{FailureKind, WorldState};
 use line_finding::{Found, find_large, find_middle, find_small};
 
 // A failure: its kind, and the start, the number of lamps and the kind of end of its line. The lamps themselves are in the line buffer.
-#[derive(Drop)]
+#[derive(Clone, Copy)]
 pub struct Failure {
     pub kind: FailureKind,
     pub start: WorldState,
@@ -22,7 +24,7 @@ pub struct Failure {
 
 // The check's answer. Accepted holds the number of pairs that some line reaches on arriving at a lamp or at the line's end, Refused the
 // number of the refusal.
-#[derive(Drop)]
+#[derive(Clone, Copy)]
 pub enum CheckAnswer {
     Accepted(u32),
     Failed(Failure),
@@ -31,7 +33,7 @@ pub enum CheckAnswer {
 
 // The short check's answer. NoneUpTo holds the number of lamps up to which no line fails. There is no Accepted: the short check knows
 // nothing of longer lines.
-#[derive(Drop)]
+#[derive(Clone, Copy)]
 pub enum ShortAnswer {
     NoneUpTo(u16),
     Failed(Failure),
@@ -40,7 +42,7 @@ pub enum ShortAnswer {
 
 // What the search comes to, for either check: no line fails of those that it looks at, and so many pairs are reached; or a line fails; or
 // there is no search, because the call is refused.
-#[derive(Drop)]
+#[derive(Clone, Copy)]
 pub enum Outcome {
     NoneFails(u32),
     Fails(Failure),

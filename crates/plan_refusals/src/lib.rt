@@ -2,6 +2,8 @@
 //
 // These functions are for the reader in the crate above and not for users: each asks for parts that lie in the file, which
 // refusals 1 to 4 ensure.
+#![tactic(auto)]
+
 ghost use Rattle.std.specs.Prelude.{◌≡◌, ◌+◌, ◌≤◌, ◌<◌, length};
 ghost use Rattle.lamp_line.specs.Refusals.{some_below};
 ghost use Rattle.job_layout.specs.inner.Laid.{Laid};

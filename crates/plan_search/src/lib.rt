@@ -3,6 +3,8 @@
 // for each kind of lamp, the group's line is then tried with one lamp more. The search stops at a line that fails, when no group is left,
 // or before it would try a line with more lamps than it was asked for (02, (b)). Of the failures of a line, the one with the lowest kind of
 // end is named, and of those with the same end the one of the lowest start.
+#![tactic(auto)]
+
 ghost use Rattle.std.specs.Prelude.{◌+◌, ◌*◌, ◌≤◌, length};
 ghost use Rattle.job_layout.specs.JobTables.{tables_by};
 ghost use Rattle.run_laws.specs.inner.Pairs.{pairs};
@@ -18,7 +20,7 @@ use working_list::list::group_end;
 // Where the search ends: no line fails, and this many pairs are in the list; or a line fails. Then it answers the failure kind, the kind of
 // the line's end, the number of pairs in the list, the member from which the line was tried, the kind of its last lamp, and its number of
 // lamps.
-#[derive(Drop)]
+#[derive(Clone, Copy)]
 pub enum SearchEnd {
     NoneFails(u32),
     AtLine(FailureKind, u8, usize, usize, u8, usize),

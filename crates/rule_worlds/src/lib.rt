@@ -2,6 +2,8 @@
 //
 // These functions are for the generator in the crates above and not for users: they ask for lists with a number for each fluent, and `new_world`
 // for values that are in their ranges.
+#![tactic(auto)]
+
 ghost use Rattle.std.specs.Prelude.{◌≡◌, false, not, ◌≤◌, ◌<◌, length, take};
 ghost use Rattle.fluent_rules.specs.Fluents.{world_count, Values, world_number, values_in};
 ghost use Rattle.fluent_rules.specs.CellRules.{some_pair, unwanted, new_value, new_values};

@@ -1,5 +1,7 @@
 // Refusal 22 (02, (e)): is a rules file one from which cells can be filled? `rules_wrong` asks nothing of its caller; the other functions are
 // for it and for the crates above, and not for users.
+#![tactic(auto)]
+
 ghost use Rattle.std.specs.Prelude.{◌≡◌, ◌+◌, ◌*◌, ◌≤◌, ◌<◌, length};
 ghost use Rattle.fluent_rules.specs.Fluents.{world_count};
 ghost use Rattle.fluent_rules.specs.CellRules.{some_pair};

@@ -1,6 +1,8 @@
 // A set of numbers below 64 as the bits of one word.
 //
 // These functions are for the crates above and not for users: each asks for a number below 64.
+#![tactic(auto)]
+
 ghost use Rattle.std.specs.Prelude.{◌≡◌, ◌<◌};
 ghost use Rattle.word_bits.specs.Bits.{has_bit};
 ghost use Rattle.word_bits.specs.inner.WordBits.{OnlyAdded, AddedIf, Lowest, WithoutLowest};

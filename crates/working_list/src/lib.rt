@@ -2,6 +2,8 @@
 //
 // These functions are for the search in the crates above and not for users: they ask for numbers that fit in a word, and for a list that
 // the search has made.
+#![tactic(auto)]
+
 use lamp_line::{ProgramState, WorldState};
 
 pub mod line;
@@ -10,7 +12,7 @@ pub mod list;
 // A pair in the working list, with the member and the kind of lamp by which it was found: with kind 0 the member is a start, with any other
 // kind it is the place of a pair in the list. Pairs that were found by the same line stand together, as a group; `opens` says that the
 // pair is the first of its group (02, (f)).
-#[derive(Drop)]
+#[derive(Clone, Copy)]
 pub struct Placed {
     pub state: ProgramState,
     pub world: WorldState,

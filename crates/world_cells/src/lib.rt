@@ -6,6 +6,8 @@
 //
 // These functions are for the generator in the crate above and not for users: they ask for a rules file to which refusal 22 does not apply, and
 // for a part of the right length.
+#![tactic(auto)]
+
 ghost use Rattle.std.specs.Prelude.{◌≡◌, false, cond, ◌+◌, ◌*◌, ◌≤◌, ◌<◌, length};
 ghost use Rattle.lamp_line.specs.Refusals.{some_below};
 ghost use Rattle.job_layout.specs.Layout.{width};

@@ -5,7 +5,7 @@ use Rattle.word_bits.specs.Bits.{bit_in}
 use Rattle.word_bits.proofs.has_bit.Statement.{statement}
 use Rattle.word_bits.proofs.has_bit.Tie as tie
 
-shr_result : tie.Need-overflow-shr-result
+shr_result : tie.Need-overflow_shr-result
 shr_result c = search rules
 
 returns : tie.Need-returns

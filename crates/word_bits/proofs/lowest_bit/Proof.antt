@@ -6,7 +6,7 @@ use Rattle.word_bits.proofs.LowestBit.{lowest}
 use Rattle.word_bits.proofs.lowest_bit.Statement.{statement}
 use Rattle.word_bits.proofs.lowest_bit.Tie as tie
 
-cast_result : tie.Need-overflow-cast-result
+cast_result : tie.Need-overflow_cast-result
 cast_result c = omega (arith, trailing_le 64 c.args.word)
 
 returns : tie.Need-returns

@@ -4,7 +4,7 @@ use Rattle.word_bits.proofs.WordBits.{only_added}
 use Rattle.word_bits.proofs.with_bit.Statement.{statement}
 use Rattle.word_bits.proofs.with_bit.Tie as tie
 
-shl_result : tie.Need-overflow-shl-result
+shl_result : tie.Need-overflow_shl-result
 shl_result c = search rules
 
 returns : tie.Need-returns

@@ -4,10 +4,10 @@ use Rattle.word_bits.proofs.WordBits.{added_if}
 use Rattle.word_bits.proofs.with_bit_if.Statement.{statement}
 use Rattle.word_bits.proofs.with_bit_if.Tie as tie
 
-cast_result : tie.Need-overflow-cast-result
+cast_result : tie.Need-overflow_cast-result
 cast_result c = search rules
 
-shl_result : tie.Need-overflow-shl-result
+shl_result : tie.Need-overflow_shl-result
 shl_result c = search rules
 
 returns : tie.Need-returns

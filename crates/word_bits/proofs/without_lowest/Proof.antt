@@ -4,7 +4,7 @@ use Rattle.word_bits.proofs.LowestBit.{lowest_removed}
 use Rattle.word_bits.proofs.without_lowest.Statement.{statement}
 use Rattle.word_bits.proofs.without_lowest.Tie as tie
 
-sub_result : tie.Need-overflow-sub-result
+sub_result : tie.Need-overflow_sub-result
 sub_result c = search rules
 
 returns : tie.Need-returns
