@@ -1,0 +1,22 @@
+use Rattle.std.proofs.Common.{rules, ◌≡◌, ◌≤◌, length, ℕ, ◌+◌, ◌-◌, ◌*◌, ◌<◌, ◌/◌, ◌%◌, Bool, true, false, nat_eq, nat_lt, List, [], ◌∷◌, ◌++◌, slice_index_or, slice_set, bit_and, bit_or, Fits, w8, w32, w64, Bor, MutBor}
+use Rattle.job_layout.specs.FileRefusals.{outside, ranges_wrong, number_wrong, end_of, misplaced, place_wrong, differs, length_wrong}
+use borrow.Author.Rules.{rules}
+use Rattle.job_layout.specs.FileRefusals.{place_wrong}
+use borrow.Author.Rules.{rules}
+use Rattle.job_layout.specs.FileRefusals.{place_wrong}
+use Rattle.head_refusals.proofs.place_wrong.Goals as goal
+
+pub returns : goal.returns
+unfolding place_wrong
+returns c =
+    rw (
+      c.is_misplaced-5.ensures,
+      c.end_of-4.ensures,
+      c.is_misplaced-4.ensures,
+      c.end_of-3.ensures,
+      c.is_misplaced-3.ensures,
+      c.end_of-2.ensures,
+      c.is_misplaced-2.ensures,
+      c.end_of.ensures,
+      c.is_misplaced.ensures,
+    )
