@@ -4,20 +4,29 @@ use Rattle.fluent_rules.specs.CellRules.{some_pair}
 use Rattle.lamp_line.specs.Refusals.{some_below}
 use Rattle.rules_file.specs.RulesFile.{fluents, fluent_bytes, value_counts, rules_place, rule_size, rule_count, rule_from, rule_at}
 use Rattle.rules_file.specs.RulesRefusal.{column_wrong, value_wrong, rule_wrong, rules_wrong}
+use mathlib.Core.Path.{sym, ◌∙◌}
+use Prim.Native.Nat.{◌+◌, ◌*◌, ◌-◌, ◌≤◌}
+use native.Mathlib.Omega.{arith}
+use borrow.Author.Rules.{rules}
+use lib.ListN.{length}
+use Rattle.lamp_line.proofs.Scan.{NoneYet, none_yet_start, none_yet_more, scan_finds, scan_ends}
+use Rattle.rules_file.specs.RulesFile.{value_counts, rules_place, rule_size, rule_at}
+use Rattle.rules_file.specs.RulesRefusal.{rule_wrong}
+use Rattle.rules_file.proofs.RuleBytes.{rule_in}
 use Rattle.rules_file.proofs.any_rule_wrong.Goals as goal
 
--- src/lib.rt:112:5
 pub loop-i-init : goal.loop-i-init
-loop-i-init c = ?
+loop-i-init c =
+    none_yet_start
 
--- src/lib.rt:114:13
 pub returns-then-rule_wrong : goal.returns-then-rule_wrong
-returns-then-rule_wrong c = ?
+returns-then-rule_wrong c =
+    let e = c.rule_place.ensures in
+    (rw c.rule_count-count.ensures at
+    (scan_finds c.loop-i.invariant (omega arith)
+    (rw e at (sym c.rule_wrong.ensures ∙ c.if-rule_wrong.true))))
 
--- src/lib.rt:112:5
 pub loop-i-preserved : goal.loop-i-preserved
-loop-i-preserved c = ?
-
--- src/lib.rt:106:1
-pub returns : goal.returns
-returns c = ?
+loop-i-preserved c =
+    let e = c.rule_place.ensures in
+    none_yet_more c.loop-i.invariant (omega arith) (rw e at (sym c.rule_wrong.ensures ∙ c.if-rule_wrong.false))

@@ -4,20 +4,30 @@ use Rattle.fluent_rules.specs.CellRules.{some_pair}
 use Rattle.lamp_line.specs.Refusals.{some_below}
 use Rattle.rules_file.specs.RulesFile.{fluents, fluent_bytes, value_counts, rules_place, rule_size, rule_count, rule_from, rule_at}
 use Rattle.rules_file.specs.RulesRefusal.{column_wrong, value_wrong, rule_wrong, rules_wrong}
+use mathlib.Core.Path.{sym, ◌∙◌}
+use Prim.Native.Nat.{◌-◌}
+use native.Mathlib.Omega.{arith}
+use borrow.Author.Rules.{rules}
+use lib.ListN.{length, get_or}
+use Rattle.lamp_line.proofs.Scan.{NoneYet, none_yet_start, none_yet_more, scan_finds, scan_ends}
+use Rattle.fluent_rules.proofs.Pairs.{pairs_below}
+use Rattle.rules_file.specs.RulesRefusal.{value_wrong}
 use Rattle.rules_file.proofs.values_wrong.Goals as goal
 
--- src/lib.rt:57:5
 pub loop-i-init : goal.loop-i-init
-loop-i-init c = ?
+loop-i-init c =
+    none_yet_start
 
--- src/lib.rt:59:13
 pub returns-then-value_wrong : goal.returns-then-value_wrong
-returns-then-value_wrong c = ?
+returns-then-value_wrong c =
+    let a = c.args in
+    scan_finds c.loop-i.invariant (omega arith) (sym c.value_wrong.ensures ∙ c.if-value_wrong.true)
+    ∙ pairs_below value_wrong a.counts.now a.values.now c.requires
 
--- src/lib.rt:57:5
 pub loop-i-preserved : goal.loop-i-preserved
-loop-i-preserved c = ?
+loop-i-preserved c =
+    none_yet_more c.loop-i.invariant (omega arith) (sym c.value_wrong.ensures ∙ c.if-value_wrong.false)
 
--- src/lib.rt:52:1
 pub returns : goal.returns
-returns c = ?
+returns c =
+    scan_ends c.loop-i.invariant (omega arith) ∙ pairs_below value_wrong c.args.counts.now c.args.values.now c.requires

@@ -4,20 +4,18 @@ use Rattle.fluent_rules.specs.CellRules.{some_pair}
 use Rattle.lamp_line.specs.Refusals.{some_below}
 use Rattle.rules_file.specs.RulesFile.{fluents, fluent_bytes, value_counts, rules_place, rule_size, rule_count, rule_from, rule_at}
 use Rattle.rules_file.specs.RulesRefusal.{column_wrong, value_wrong, rule_wrong, rules_wrong}
+use Prim.Native.Nat.{◌-◌}
+use native.Mathlib.Omega.{arith}
+use borrow.Author.Rules.{rules}
+use lib.ListN.{length}
+use Rattle.rules_file.proofs.CountsProduct.{Multiplied, multiplied_start, multiplied_more, product_fits, multiplied_done}
 use Rattle.rules_file.proofs.world_count.Goals as goal
 
--- src/lib.rt:32:5
-pub loop-i-init : goal.loop-i-init
-loop-i-init c = ?
-
--- src/lib.rt:33:19
-pub overflow_mul-product : goal.overflow_mul-product
-overflow_mul-product c = ?
-
--- src/lib.rt:32:5
 pub loop-i-preserved : goal.loop-i-preserved
-loop-i-preserved c = ?
+loop-i-preserved c =
+    let count = c.shared_slice_known-1.given c.loop-i.i in
+    multiplied_more c.loop-i.invariant (omega arith) (omega arith)
 
--- src/lib.rt:26:1
 pub returns : goal.returns
-returns c = ?
+returns c =
+    multiplied_done c.loop-i.invariant (omega arith)

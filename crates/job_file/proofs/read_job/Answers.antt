@@ -1,0 +1,37 @@
+use Rattle.std.proofs.Common.{rules, ◌≡◌, ℕ, ◌+◌, ◌-◌, ◌*◌, ◌<◌, ◌≤◌, length, ◌/◌, ◌%◌, Bool, true, false, nat_eq, nat_lt, List, [], ◌∷◌, ◌++◌, slice_index_or, slice_set, bit_and, bit_or, Fits, w8, w32, w64, Bor, MutBor}
+use Rattle.job_layout.specs.inner.Laid.{Laid}
+use Rattle.job_file.specs.Reading.{reading_of}
+use Rattle.job_file.specs.inner.ReaderSteps.{reading_from, refusal_of}
+use borrow.Author.Rules.{rules}
+use mathlib.Core.Path.{sym, ◌∙◌}
+use borrow.Author.Tests.{ltb-false}
+use Rattle.head_refusals.proofs.HeadLaws.{neither, laid}
+use Rattle.job_file.proofs.ReadingLaws.{size_refused, number_refused, place_refused, length_refused, head_read}
+use Rattle.job_file.proofs.read_job.Goals as goal
+
+-- Each test is the next refusal's, and a file that passes the head's tests is laid out as it must be.
+pub returns-then-size : goal.returns-then-size
+returns-then-size c =
+    search size_refused
+
+pub returns-then-number_wrong : goal.returns-then-number_wrong
+returns-then-number_wrong c =
+    search number_refused
+
+pub returns-then-place_wrong : goal.returns-then-place_wrong
+returns-then-place_wrong c =
+    search place_refused
+
+pub returns-then-length_wrong : goal.returns-then-length_wrong
+returns-then-length_wrong c =
+    search length_refused
+
+pub read_parts-requires : goal.read_parts-requires
+read_parts-requires c =
+    laid _ _ (sym c.number_wrong.ensures ∙ c.if-number_wrong.false)
+    (sym c.place_wrong.ensures ∙ c.if-place_wrong.false)
+    (sym c.length_wrong.ensures ∙ c.if-length_wrong.false)
+
+pub returns : goal.returns
+returns c =
+    search head_read

@@ -1,0 +1,39 @@
+use Rattle.std.proofs.Common.{rules, ◌≡◌, ◌+◌, ◌≤◌, ◌<◌, ℕ, ◌-◌, ◌*◌, length, ◌/◌, ◌%◌, Bool, true, false, nat_eq, nat_lt, List, [], ◌∷◌, ◌++◌, slice_index_or, slice_set, bit_and, bit_or, Fits, w8, w32, w64, Bor, MutBor}
+use Rattle.job_layout.specs.Layout.{job_columns}
+use Rattle.lamp_line.specs.Run.{judged, pair, own_steps, act, lamp_walk}
+use Rattle.job_layout.specs.JobTables.{tables_of}
+use Rattle.job_file.specs.Reading.{Opened}
+use Rattle.lamp_walk.specs.WalkAnswers.{walk_answer_of, walk_answer}
+use Rattle.lamp_walk.specs.inner.Walking.{move_of, spent_ending, walk_of}
+use borrow.Author.Rules.{rules}
+use Rattle.job_tables.proofs.Ranges.{action_below, result_below}
+use Rattle.lamp_walk.proofs.ActionLaws.{acts_not_legal, acts_no_branch, acts_passes, acts_stays}
+use Rattle.lamp_walk.proofs.try_action.Goals as goal
+
+pub read_cell-cell-requires : goal.read_cell-cell-requires
+read_cell-cell-requires c =
+    search (rules, action_below)
+
+pub returns-in_default : goal.returns-in_default
+returns-in_default c =
+    search acts_not_legal
+
+pub plan_target-target-requires : goal.plan_target-target-requires
+plan_target-target-requires c =
+    search (rules, result_below)
+
+pub returns-in_default-target : goal.returns-in_default-target
+returns-in_default-target c =
+    search acts_no_branch depth 7
+
+pub moves_on-requires : goal.moves_on-requires
+moves_on-requires c =
+    search (rules, action_below)
+
+pub returns-then-moves_on : goal.returns-then-moves_on
+returns-then-moves_on c =
+    search acts_passes
+
+pub returns : goal.returns
+returns c =
+    search acts_stays

@@ -1,0 +1,31 @@
+use Rattle.std.proofs.Common.{rules, ◌≡◌, false, not, ◌≤◌, ◌<◌, length, take, ℕ, ◌+◌, ◌-◌, ◌*◌, ◌/◌, ◌%◌, Bool, true, nat_eq, nat_lt, List, [], ◌∷◌, ◌++◌, slice_index_or, slice_set, bit_and, bit_or, Fits, w8, w32, w64, Bor, MutBor}
+use Rattle.fluent_rules.specs.Fluents.{world_count, Values, world_number, values_in}
+use Rattle.fluent_rules.specs.CellRules.{some_pair, unwanted, new_value, new_values}
+use Rattle.rules_file.specs.RulesRefusal.{value_wrong}
+use mathlib.Core.Path.{◌≡◌, refl}
+use Prim.Native.Nat.{◌-◌}
+use native.Mathlib.Omega.{arith}
+use borrow.Author.Rules.{rules}
+use lib.ListN.{length, length-set}
+use Rattle.rule_worlds.proofs.WorldDigits.{Decoded, decoded_start, count_positive, next_positive, decoded_more, decoded_done}
+use Rattle.rule_worlds.proofs.world_values.Goals as goal
+
+pub nonzero_div-weight : goal.nonzero_div-weight
+nonzero_div-weight c =
+    omega (arith, count_positive c.loop-i.invariant.0 (omega arith))
+
+pub nonzero_div-values : goal.nonzero_div-values
+nonzero_div-values c =
+    omega (arith, next_positive c.loop-i.invariant.0 (omega arith))
+
+pub nonzero_rem-rest : goal.nonzero_rem-rest
+nonzero_rem-rest c =
+    omega (arith, next_positive c.loop-i.invariant.0 (omega arith))
+
+pub loop-i-preserved : goal.loop-i-preserved
+loop-i-preserved c =
+    (decoded_more c.loop-i.invariant.0 (omega arith) (omega arith), simp length-set c.loop-i.invariant.1)
+
+pub returns : goal.returns
+returns c =
+    decoded_done c.loop-i.invariant.0 (omega arith)

@@ -1,0 +1,21 @@
+use Rattle.std.proofs.Common.{rules, ◌≡◌, false, cond, ◌+◌, ◌*◌, ◌≤◌, ◌<◌, length, ℕ, ◌-◌, ◌/◌, ◌%◌, Bool, true, nat_eq, nat_lt, List, [], ◌∷◌, ◌++◌, slice_index_or, slice_set, bit_and, bit_or, Fits, w8, w32, w64, Bor, MutBor}
+use Rattle.lamp_line.specs.Refusals.{some_below}
+use Rattle.job_layout.specs.Layout.{width}
+use Rattle.fluent_rules.specs.CellsPart.{part_length}
+use Rattle.fluent_rules.specs.Fluents.{values_in}
+use Rattle.rules_file.specs.RulesFile.{value_counts, rule_count}
+use Rattle.rules_file.specs.RulesRefusal.{rules_wrong}
+use Rattle.world_cells.specs.inner.CellsWritten.{undecided, with_cell, row_start, cell_number, first_column, columns_end, Claimed, Applied, NotLegalYet, WorldFilled}
+use Rattle.world_cells.proofs.any_undecided.Goals as goal
+
+-- src/lib.rt:120:5
+pub loop-c-init : goal.loop-c-init
+loop-c-init c = ?
+
+-- src/lib.rt:122:13
+pub returns-then-part-first : goal.returns-then-part-first
+returns-then-part-first c = ?
+
+-- src/lib.rt:120:5
+pub loop-c-preserved : goal.loop-c-preserved
+loop-c-preserved c = ?
