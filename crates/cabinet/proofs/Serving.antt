@@ -50,6 +50,7 @@ module _ (bytes : List ℕ) where
       action_answer bytes m ≡ action.Action (action_of l) → TakenReport bytes m (result_of l) →
       handed_on bytes m (report_call (result_of l)) ≡ m' → Serves m' ls n → Serves m (l ∷ ls) n
   unfolding left_by Owed
+  serves_step (did a r) {ls = ls} {m = m} {m' = m'} {n = n} e taken on later [] reports = elim reports [ ]
   serves_step (did a r) e taken on later (action_call ∷ calls) (asked more) =
       let k = serves_step (did a r) e taken on later calls more in
       record { owed = (e, k.owed); leaves = k.leaves }

@@ -11,6 +11,12 @@ use lib.ListN.{length}
 use Rattle.lamp_line.specs.Run.{pair}
 use Rattle.job_tables.proofs.Ranges.{columns_few}
 use Rattle.line_run.proofs.RunLoop.{Running, running_kinds, running_column_in, running_start, running_ends, running_at_lamp, running_passes, running_stopped, rest_shorter}
+use borrow.Author.Rules.{rules}
+use native.Mathlib.Omega.{arith}
+use lib.ListN.{length}
+use Rattle.lamp_line.specs.Run.{pair}
+use Rattle.job_tables.proofs.Ranges.{columns_few}
+use Rattle.line_run.proofs.RunLoop.{Running, running_kinds, running_column_in, running_start, running_ends, running_at_lamp, running_passes, running_stopped, rest_shorter}
 use Rattle.line_run.proofs.run_in_job.Given as goal
 
 abbrev pub invariant-loop-ending : goal.invariant-loop-ending

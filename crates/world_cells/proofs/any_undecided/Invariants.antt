@@ -12,6 +12,12 @@ use borrow.Author.Rules.{rules}
 use borrow.Author.Tests.{eq-eqb, ne_eqb}
 use Rattle.lamp_line.proofs.Scan.{NoneYet, none_yet_start, none_yet_more, scan_finds, scan_ends}
 use Rattle.world_cells.specs.inner.CellsWritten.{undecided}
+use Prim.Native.Nat.{◌+◌, ◌-◌}
+use native.Mathlib.Omega.{arith}
+use borrow.Author.Rules.{rules}
+use borrow.Author.Tests.{eq-eqb, ne_eqb}
+use Rattle.lamp_line.proofs.Scan.{NoneYet, none_yet_start, none_yet_more, scan_finds, scan_ends}
+use Rattle.world_cells.specs.inner.CellsWritten.{undecided}
 use Rattle.world_cells.proofs.any_undecided.Given as goal
 
 abbrev pub invariant-loop-c : goal.invariant-loop-c

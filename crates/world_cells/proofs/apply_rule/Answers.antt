@@ -31,7 +31,7 @@ pub returns-then-not-wants : goal.returns-then-not-wants
 returns-then-not-wants c =
     let this : RuleOf c.args.rules.now c.args.sizes c.args.i = record { right = c.requires.0; within = c.requires.2 } in
     applied_not_here this c.rule_place-at.ensures c.requires.4 c.fluent_bytes-wanted.ensures
-    (sym c.wants.ensures ∙ not-true _ c.if-not-wants.true)
+    (sym c.wants.ensures ∙ c.if-not-wants.true)
 
 pub new_world-next-requires : goal.new_world-next-requires
 new_world-next-requires c =
@@ -73,5 +73,5 @@ returns c =
     let known = c.shared_slice_known-4-1.given (c.rule_place-at.result + 2) in
     applied_here this c.rule_place-at.ensures c.fluent_bytes.ensures wanted_long c.fluent_bytes-new.ensures
     c.requires.3 (omega arith) c.requires.4 c.fluent_bytes-wanted.ensures
-    (sym c.wants.ensures ∙ not-false _ c.if-not-wants.false) c.row_start-row.ensures c.first_column.ensures
+    (sym c.wants.ensures ∙ c.if-not-wants.false) c.row_start-row.ensures c.first_column.ensures
     c.columns_end.ensures c.new_world-next.ensures c.claim_cells.ensures

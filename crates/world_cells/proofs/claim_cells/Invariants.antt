@@ -12,6 +12,12 @@ use native.Mathlib.Omega.{arith}
 use borrow.Author.Rules.{rules}
 use Rattle.world_cells.specs.inner.CellsWritten.{Claimed}
 use Rattle.world_cells.proofs.CellWrites.{claimed_start, claimed_more}
+use mathlib.Core.Path.{◌≡◌}
+use Prim.Native.Nat.{◌-◌, ◌≤◌}
+use native.Mathlib.Omega.{arith}
+use borrow.Author.Rules.{rules}
+use Rattle.world_cells.specs.inner.CellsWritten.{Claimed}
+use Rattle.world_cells.proofs.CellWrites.{claimed_start, claimed_more}
 use Rattle.world_cells.proofs.claim_cells.Given as goal
 
 abbrev pub invariant-loop-i : goal.invariant-loop-i

@@ -17,6 +17,28 @@ use Rattle.rules_file.specs.RulesFile.{fluents}
 use Rattle.rules_file.proofs.RuleBytes.{fluent_bytes_length}
 use Rattle.rules_file.proofs.RulesTested.{RulesRight, rules_right}
 use Rattle.world_cells.proofs.RulesApplied.{AppliedTo, applied_start, applied_more, applied_done, applied_early}
+use mathlib.Core.Path.{◌≡◌, sym, ◌∙◌}
+use Prim.Native.Nat.{◌-◌, ◌≤◌}
+use native.Mathlib.Omega.{arith}
+use borrow.Author.Rules.{rules}
+use borrow.Author.Tests.{not-true}
+use lib.ListN.{length}
+use lib.Seq.{length-take-le}
+use Rattle.rules_file.specs.RulesFile.{fluents}
+use Rattle.rules_file.proofs.RuleBytes.{fluent_bytes_length}
+use Rattle.rules_file.proofs.RulesTested.{RulesRight, rules_right}
+use Rattle.world_cells.proofs.RulesApplied.{AppliedTo, applied_start, applied_more, applied_done, applied_early}
+use mathlib.Core.Path.{◌≡◌, sym, ◌∙◌}
+use Prim.Native.Nat.{◌-◌, ◌≤◌}
+use native.Mathlib.Omega.{arith}
+use borrow.Author.Rules.{rules}
+use borrow.Author.Tests.{not-true}
+use lib.ListN.{length}
+use lib.Seq.{length-take-le}
+use Rattle.rules_file.specs.RulesFile.{fluents}
+use Rattle.rules_file.proofs.RuleBytes.{fluent_bytes_length}
+use Rattle.rules_file.proofs.RulesTested.{RulesRight, rules_right}
+use Rattle.world_cells.proofs.RulesApplied.{AppliedTo, applied_start, applied_more, applied_done, applied_early}
 use Rattle.world_cells.proofs.fill_world.Given as goal
 
 abbrev pub invariant-loop-i : goal.invariant-loop-i

@@ -1,0 +1,27 @@
+use Rattle.std.proofs.Common.{rules, ◌≡◌, ◌<◌, ℕ, ◌+◌, ◌-◌, ◌*◌, ◌≤◌, length, ◌/◌, ◌%◌, Bool, true, false, nat_eq, nat_lt, List, [], ◌∷◌, ◌++◌, slice_index_or, slice_set, bit_and, bit_or, Fits, w8, w32, w64, Bor, MutBor}
+use Rattle.job_layout.specs.JobTables.{tables_of}
+use Rattle.job_file.specs.Reading.{Opened}
+use Rattle.job_tables.specs.inner.Entries.{target_of}
+use Rattle.cabinet.specs.CabinetAnswers.{begin_answer, action_answer, report_answer}
+use borrow.Author.Rules.{rules}
+use mathlib.Core.Path.{sym, ap, ◌∙◌}
+use Rattle.lamp_line.specs.declared.ProgramState.{ProgramState}
+use Rattle.job_file.proofs.Opening.{reading_refused}
+use Rattle.job_tables.proofs.Ranges.{first_is}
+use Rattle.cabinet.specs.declared.BeginAnswer.TheVariants.{Begun}
+use Rattle.cabinet.proofs.Answering.{begin_file_refused, begin_opened}
+use Rattle.cabinet.proofs.begin.Goals as goal
+
+pub returns-in_default : goal.returns-in_default
+returns-in_default c =
+    let a = c.args in
+    begin_file_refused a.file.now
+    (reading_refused a.file.now _ _ _ c.read_job-reading.ensures c.in_default.is c.refusal_number.ensures)
+    a.count
+
+pub returns : goal.returns
+returns c =
+    let a = c.args in
+    let opened = sym c.read_job-reading.ensures ∙ c.in-Job.is in
+    ap (λ (q : ProgramState). Begun (record { state = q; lamps = a.count })) (first_is a.file.now _ opened)
+    ∙ sym (begin_opened a.file.now opened a.count)

@@ -1,0 +1,51 @@
+use Rattle.std.proofs.Common.{rules, ◌≡◌, true, ◌≤◌, ℕ, ◌+◌, ◌-◌, ◌*◌, ◌<◌, length, ◌/◌, ◌%◌, Bool, false, nat_eq, nat_lt, List, [], ◌∷◌, ◌++◌, slice_index_or, slice_set, bit_and, bit_or, w8, w32, w64, Bor, MutBor}
+use Rattle.lamp_line.specs.Tables.{line_of, column_of, Kinds, Fits}
+use Rattle.job_layout.specs.Layout.{job_columns}
+use Rattle.lamp_line.specs.Run.{ran, run, limited}
+use Rattle.job_layout.specs.JobTables.{tables_by, tables_of}
+use Rattle.job_file.specs.Reading.{Opened}
+use Rattle.line_run.specs.RunAnswers.{run_answer_of, run_answer}
+use borrow.Author.Rules.{rules}
+use native.Mathlib.Omega.{arith}
+use lib.ListN.{length}
+use Rattle.lamp_line.specs.Run.{pair}
+use Rattle.job_tables.proofs.Ranges.{columns_few}
+use Rattle.line_run.proofs.RunLoop.{Running, running_kinds, running_column_in, running_start, running_ends, running_at_lamp, running_passes, running_stopped, rest_shorter}
+use Rattle.line_run.proofs.run_in_job.Goals as goal
+
+pub loop-ending-init : goal.loop-ending-init
+loop-ending-init c =
+    search running_start
+
+pub column_of-column-requires : goal.column_of-column-requires
+column_of-column-requires c =
+    search (columns_few, running_kinds)
+
+pub walk_in_job-walked-requires : goal.walk_in_job-walked-requires
+walk_in_job-walked-requires c =
+    search (rules, running_column_in)
+
+pub returns-in-Ended : goal.returns-in-Ended
+returns-in-Ended c =
+    search running_ends
+
+pub returns-then-limit-k : goal.returns-then-limit-k
+returns-then-limit-k c =
+    running_stopped c.requires.0 c.loop-ending.invariant c.walk_in_job-walked.result c.column_of-column.ensures
+    c.walk_in_job-walked.ensures c.in-Arrived.is (omega arith)
+
+pub slice_bounds-rest-count : goal.slice_bounds-rest-count
+slice_bounds-rest-count c =
+    search running_at_lamp
+
+pub slice_bounds-rest-start : goal.slice_bounds-rest-start
+slice_bounds-rest-start c =
+    search running_at_lamp
+
+pub loop-ending-smaller : goal.loop-ending-smaller
+loop-ending-smaller c =
+    search (rest_shorter, running_at_lamp)
+
+pub loop-ending-preserved : goal.loop-ending-preserved
+loop-ending-preserved c =
+    search running_passes
