@@ -7,8 +7,8 @@ ghost use Rattle.bench_line.specs.BenchJobs.{G, G_five};
 
 // Bench line G itself.
 pub fn bench() -> [u8; 128]
-    ensures value { result ≡ G }
-    ensures value_2 { 128 ≡ length result }
+    ensures bytes { result ≡ G }
+    ensures size { 128 ≡ length result }
 {
     [
         4, 3, 2, 2, 4, 0, 0, 0, 28, 0, 4, 0, 32, 0, 72, 0, 104, 0, 3, 0, 107, 0, 9, 0, 116, 0, 12,
@@ -21,8 +21,8 @@ pub fn bench() -> [u8; 128]
 
 // Bench line G with a fifth state, which looks for the line's end after each lamp and has no branch for another lamp.
 pub fn five_states() -> [u8; 131]
-    ensures value { result ≡ G_five }
-    ensures value_2 { 131 ≡ length result }
+    ensures bytes { result ≡ G_five }
+    ensures size { 131 ≡ length result }
 {
     [
         4, 3, 2, 2, 5, 0, 0, 0, 28, 0, 4, 0, 32, 0, 72, 0, 104, 0, 3, 0, 107, 0, 9, 0, 116, 0, 15,

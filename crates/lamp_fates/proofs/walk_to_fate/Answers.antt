@@ -1,0 +1,77 @@
+use Rattle.std.proofs.Common.{rules, ◌≡◌, List, ℕ, ◌+◌, ◌*◌, ◌<◌, ◌-◌, ◌≤◌, length, ◌/◌, ◌%◌, Bool, true, false, nat_eq, nat_lt, [], ◌∷◌, ◌++◌, slice_index_or, slice_set, bit_and, bit_or, Fits, w8, w32, w64, Bor, MutBor}
+use Rattle.job_layout.specs.Layout.{job_columns}
+use Rattle.lamp_line.specs.Run.{pair, ended}
+use Rattle.job_layout.specs.JobTables.{tables_by}
+use Rattle.job_file.specs.Reading.{Opened}
+use Rattle.run_laws.specs.inner.Pairs.{InRange, pair_number}
+use Rattle.lamp_fates.specs.inner.Memory.{walk_to, pair_code, fate_entry, fate_from, Memory, LookedUp}
+use Rattle.lamp_fates.specs.inner.Links.{WalkedTo}
+use borrow.Author.Rules.{rules}
+use native.Mathlib.Omega.{arith}
+use Prim.Native.Nat.{◌<◌}
+use Rattle.lamp_line.specs.Run.{pair}
+use Rattle.lamp_fates.proofs.WalkTurns.{LeavingLinks, unknown, leaving_starts, leaving_place, leaving_fits, leaving_on, unknown_falls}
+use Rattle.lamp_fates.proofs.WalkTurns.{walked_known, walked_circles, walked_ends, walked_passes, walked_final, next_world_within, next_small}
+use Rattle.lamp_fates.proofs.walk_to_fate.Goals as goal
+
+pub loop-job-init : goal.loop-job-init
+loop-job-init c =
+    search leaving_starts
+
+pub offset_bounds-memory-place : goal.offset_bounds-memory-place
+offset_bounds-memory-place c =
+    search leaving_fits
+
+pub bounds-memory-place : goal.bounds-memory-place
+bounds-memory-place c =
+    search leaving_place
+
+pub returns-then-entry-lt-LINKS : goal.returns-then-entry-lt-LINKS
+returns-then-entry-lt-LINKS c =
+    search walked_known
+
+pub returns-then-entry-ne0 : goal.returns-then-entry-ne0
+returns-then-entry-ne0 c =
+    search walked_circles
+
+pub returns-in-Ends : goal.returns-in-Ends
+returns-in-Ends c =
+    search walked_ends
+
+pub returns-in-Passes : goal.returns-in-Passes
+returns-in-Passes c =
+    search walked_passes
+
+pub judge-requires : goal.judge-requires
+judge-requires c =
+    search (rules, next_world_within)
+
+pub returns-then-to-job : goal.returns-then-to-job
+returns-then-to-job c =
+    search walked_final
+
+pub overflow_cast-memory : goal.overflow_cast-memory
+overflow_cast-memory c =
+    let number_small : c.pair_number.result < 4160 = search next_small in
+    omega (arith, number_small)
+
+pub overflow_add-memory : goal.overflow_add-memory
+overflow_add-memory c =
+    let number_small : c.pair_number.result < 4160 = search next_small in
+    omega (arith, number_small)
+
+pub offset_bounds-memory-place-in-Stays : goal.offset_bounds-memory-place-in-Stays
+offset_bounds-memory-place-in-Stays c =
+    search leaving_fits
+
+pub bounds-memory-place-in-Stays : goal.bounds-memory-place-in-Stays
+bounds-memory-place-in-Stays c =
+    search leaving_place
+
+pub loop-job-smaller : goal.loop-job-smaller
+loop-job-smaller c =
+    search unknown_falls
+
+pub loop-job-preserved : goal.loop-job-preserved
+loop-job-preserved c =
+    search leaving_on

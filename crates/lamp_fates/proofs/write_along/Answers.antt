@@ -1,0 +1,53 @@
+use Rattle.std.proofs.Common.{rules, ◌≡◌, List, ℕ, ◌+◌, ◌*◌, ◌<◌, ◌-◌, ◌≤◌, length, ◌/◌, ◌%◌, Bool, true, false, nat_eq, nat_lt, [], ◌∷◌, ◌++◌, slice_index_or, slice_set, bit_and, bit_or, Fits, w8, w32, w64, Bor, MutBor}
+use Rattle.job_layout.specs.Layout.{job_columns}
+use Rattle.lamp_line.specs.Run.{pair, ended}
+use Rattle.job_layout.specs.JobTables.{tables_by}
+use Rattle.job_file.specs.Reading.{Opened}
+use Rattle.run_laws.specs.inner.Pairs.{InRange, pair_number}
+use Rattle.lamp_fates.specs.inner.Memory.{walk_to, pair_code, fate_entry, fate_from, Memory, LookedUp}
+use Rattle.lamp_fates.specs.inner.Links.{WalkedTo}
+use borrow.Author.Rules.{rules}
+use native.Mathlib.Omega.{arith}
+use Prim.Native.Nat.{◌+◌, ◌<◌}
+use lib.ListN.{length}
+use Rattle.lamp_fates.proofs.WriteTurns.{Following, linked, following_starts, following_place, following_ends, following_on, linked_falls}
+use Rattle.lamp_fates.proofs.write_along.Goals as goal
+
+pub loop-column-init : goal.loop-column-init
+loop-column-init c =
+    search following_starts
+
+pub overflow_add-place : goal.overflow_add-place
+overflow_add-place c =
+    let place_in : c.first_place-base.result + c.loop-column.pair < length c.loop-column.memory = search following_place in
+    omega (arith, place_in)
+
+pub offset_bounds-memory-place : goal.offset_bounds-memory-place
+offset_bounds-memory-place c =
+    let place_in : c.first_place-base.result + c.loop-column.pair < length c.loop-column.memory = search following_place in
+    omega (arith, place_in)
+
+pub bounds-memory-place : goal.bounds-memory-place
+bounds-memory-place c =
+    search following_place
+
+pub offset_bounds-memory-place-in-loop-column : goal.offset_bounds-memory-place-in-loop-column
+offset_bounds-memory-place-in-loop-column c =
+    let place_in : c.first_place-base.result + c.loop-column.pair < length c.loop-column.memory = search following_place in
+    omega (arith, place_in)
+
+pub bounds-memory-place-in-loop-column : goal.bounds-memory-place-in-loop-column
+bounds-memory-place-in-loop-column c =
+    search following_place
+
+pub returns-then-next-lt-LINKS : goal.returns-then-next-lt-LINKS
+returns-then-next-lt-LINKS c =
+    search following_ends
+
+pub loop-column-smaller : goal.loop-column-smaller
+loop-column-smaller c =
+    search linked_falls
+
+pub loop-column-preserved : goal.loop-column-preserved
+loop-column-preserved c =
+    search following_on
