@@ -1,11 +1,10 @@
 -- What the functions answer on a line that is tried, and one kind of end after the other.
+use mathlib.Core.Logic.{◌≢◌}
 use mathlib.Core.Path.{◌≡◌, refl, subst}
 use mathlib.Core.Bool.{false}
 use mathlib.Core.List.{List, [], ◌∷◌}
 use Prim.Native.Nat.{ℕ, ◌+◌}
 use native.Mathlib.Omega.{arith}
-use denote.Enum.Declared.{tag_of}
-use types.Run.{OneOf, miss}
 use Rattle.lamp_line.specs.declared.FailureKind.{FailureKind}
 use Rattle.lamp_line.specs.declared.ProgramState.{ProgramState}
 use Rattle.lamp_line.specs.declared.WorldState.{WorldState}
@@ -18,7 +17,6 @@ use Rattle.check_laws.specs.inner.Search.{fails_at, quiet, finds, visited, tried
 use Rattle.check_laws.proofs.Ends.{EndsSay, ends_say}
 use Rattle.line_trial.specs.declared.Tried.{Tried}
 use Rattle.line_trial.specs.declared.Tried.TheVariants as tried_as
-use Rattle.line_trial.specs.contracts.Tried.{the_type as tried_type}
 use Rattle.line_trial.specs.inner.Trials.{TriedBelow, EndsSoFar, Tries, TriesEnd, TriesLine}
 
 -- ---- the answers, case by case
@@ -48,18 +46,22 @@ module _
 pub none_below : {t : Tables} {E : List Entry} {member kind : ℕ} → TriedBelow t E member kind 0
 none_below = record { none_fails_lem = λ failure e below. absurd (omega arith); some_new = λ later. absurd (omega arith) }
 
+-- It is no new pair.
+abbrev pub NotNew : Tried → Type 0
+NotNew r = (state : ProgramState) (world : WorldState) → r ≢ tried_as.New state world
+
 -- The answer of `try_end` for one end.
 module _
     {t : Tables} {E : List Entry} {member kind end : ℕ} {words : List ℕ} {r : Tried} {memory' : List ℕ}
     (tries : TriesEnd t E member kind end words r memory') where
   -- It is a failure, or nothing is new: this is the answer for the line.
-  pub end_decides : OneOf (0 ∷ 1 ∷ []) (tag_of tried_type r) → TriesLine t E member kind words r memory'
+  pub end_decides : NotNew r → TriesLine t E member kind words r memory'
   end_decides h = go r refl h
     where
-      go : (u : Tried) → r ≡ u → OneOf (0 ∷ 1 ∷ []) (tag_of tried_type u) → TriesLine t E member kind words u memory'
+      go : (u : Tried) → r ≡ u → NotNew u → TriesLine t E member kind words u memory'
       go (tried_as.Fails failure e) is k = record { so = tries_fails tries is; remembers = tries.remembers }
       go tried_as.Nothing is k = record { so = tries_nothing tries is; remembers = tries.remembers }
-      go (tried_as.New state world) is k = absurd (miss (0 ∷ 1 ∷ []) 2 tt k)
+      go (tried_as.New state world) is k = absurd (k state world refl)
 
   module _ {state : ProgramState} {world : WorldState} (is_new : r ≡ tried_as.New state world) where
     so_far : EndsSoFar t E member kind end words (pair state world)

@@ -9,8 +9,6 @@ use native.Mathlib.Omega.{arith}
 use borrow.Author.Tests.{eqb-true, eq-eqb}
 use lib.Dec.{eqb}
 use lib.ListN.{length}
-use denote.Enum.Declared.{tag_of}
-use types.Run.{OneOf, miss}
 use Rattle.lamp_line.specs.declared.FailureKind.{FailureKind}
 use Rattle.lamp_line.specs.declared.ProgramState.{ProgramState}
 use Rattle.lamp_line.specs.declared.WorldState.{WorldState}
@@ -30,7 +28,6 @@ use Rattle.job_layout.specs.JobTables.{tables_by}
 use Rattle.lamp_fates.specs.declared.Fate.{Fate}
 use Rattle.lamp_fates.specs.declared.Fate.TheVariants.{Succeeds, Fails, Arrives}
 use Rattle.lamp_fates.specs.inner.Memory.{walk_to, LookedUp}
-use Rattle.lamp_fates.specs.contracts.Fate.{the_type}
 use Rattle.search_laws.specs.inner.Entries.{Entry}
 use Rattle.check_laws.specs.inner.Fates as fates
 use Rattle.check_laws.specs.inner.Fates.{AtEnds, good, bad, fate_of, fate, at_ends}
@@ -75,21 +72,28 @@ module _ {t : Tables} {p : Pair} {column : ℕ} {r : Fate} {memory' : List ℕ} 
       let (k, is) = arrived_so (lamp_walk t p column) (pair state world) (sym (ap walk_to e) ∙ looked.fate_is) in
       arrived_in_range t wf (t.states * t.worlds) p (pair state world) column k is
 
--- A fate that is the first or the third variant is not a failure.
+-- The fate is no failure; it is no pair with which the line goes on.
+abbrev pub NotFailed : Fate → Type 0
+NotFailed r = (x : FailureKind) → r ≢ Fails x
+
+abbrev pub NotArrived : Fate → Type 0
+NotArrived r = (q : ProgramState) (w : WorldState) → r ≢ Arrives q w
+
+-- What is not answered as a failure is none.
 no_failure :
-    (worlds : ℕ) (r : Fate) → OneOf (0 ∷ 2 ∷ []) (tag_of the_type r) →
+    (worlds : ℕ) (r : Fate) → NotFailed r →
     (failure : FailureKind) → fate_of worlds (walk_to r) ≢ fates.fails failure
 no_failure worlds Succeeds h failure e = let z : ◌≡◌ {A = ℕ} 0 1 = cc in omega arith
-no_failure worlds (Fails x) h failure e = miss (0 ∷ 2 ∷ []) 1 tt h
+no_failure worlds (Fails x) h failure e = h x refl
 no_failure worlds (Arrives q w) h failure e = let z : ◌≡◌ {A = ℕ} 0 1 = cc in omega arith
 
--- If it is also the first or the second, it is success.
+-- If it is also no pair with which the line goes on, it is success.
 succeeds_then :
-    (worlds : ℕ) (r : Fate) → OneOf (0 ∷ 2 ∷ []) (tag_of the_type r) → OneOf (0 ∷ 1 ∷ []) (tag_of the_type r) →
+    (worlds : ℕ) (r : Fate) → NotFailed r → NotArrived r →
     fate_of worlds (walk_to r) ≡ fates.succeeds
 succeeds_then worlds Succeeds h k = refl
-succeeds_then worlds (Fails x) h k = absurd (miss (0 ∷ 2 ∷ []) 1 tt h)
-succeeds_then worlds (Arrives q w) h k = absurd (miss (0 ∷ 1 ∷ []) 2 tt k)
+succeeds_then worlds (Fails x) h k = absurd (h x refl)
+succeeds_then worlds (Arrives q w) h k = absurd (k q w refl)
 
 -- ---- the loop that tries a line with one end
 
@@ -199,7 +203,7 @@ module _
 
       -- Its fate is not a failure, and the line is at its end: the pair is new, and does not fail with this end.
       pub tries_ending :
-          OneOf (0 ∷ 2 ∷ []) (tag_of the_type r) → column ≡ end → TriesEnd t E member kind end words (tried_as.New state world) memory'
+          NotFailed r → column ≡ end → TriesEnd t E member kind end words (tried_as.New state world) memory'
       tries_ending no_fail here = record { so = go trying.goes.going; remembers = looked.memory }
         where
           succeeds : (failure : FailureKind) → fate t y end ≢ fates.fails failure
@@ -241,7 +245,7 @@ module _
   module _ {r : Fate} {memory' : List ℕ} (looked : LookedUp t (pair state world) column r memory') (lamp : column ≢ end) where
     -- The line is at its last lamp, and the plan ends there with the goal true: nothing is new.
     pub tries_succeeding :
-        OneOf (0 ∷ 2 ∷ []) (tag_of the_type r) → OneOf (0 ∷ 1 ∷ []) (tag_of the_type r) →
+        NotFailed r → NotArrived r →
         TriesEnd t E member kind end words tried_as.Nothing memory'
     tries_succeeding h k = record { so = go trying.goes.going; remembers = looked.memory }
       where

@@ -62,6 +62,7 @@ use Rattle.rule_worlds.proofs.new_world.Given as goal
 abbrev pub invariant-loop-i : goal.invariant-loop-i
 invariant-loop-i l =
     Numbered l.counts (new_values l.new l.values) l.i l.world
+
 -- proposed from the loop's first test
 abbrev pub decreases-loop-i : goal.decreases-loop-i
 decreases-loop-i l =

@@ -1,0 +1,45 @@
+use Rattle.std.proofs.Common.{rules, ◌≡◌, ◌&&◌, ◌*◌, ◌≤◌, ◌<◌, eqb, length, ℕ, ◌+◌, ◌-◌, ◌/◌, ◌%◌, Bool, true, false, nat_lt, List, [], ◌∷◌, ◌++◌, slice_index_or, slice_set, bit_and, bit_or, Fits, w8, w32, w64, Bor, MutBor}
+use Rattle.job_layout.specs.JobTables.{tables_by}
+use Rattle.job_file.specs.Reading.{Opened}
+use Rattle.lamp_fates.specs.inner.Memory.{Memory}
+use Rattle.pair_bits.specs.Sum.{bit_at}
+use Rattle.working_list.specs.inner.Listing.{table, Listed}
+use Rattle.line_trial.specs.inner.Trials.{Ready, HasMember, Begins, TriedBelow, TriesEnd, TriesLine}
+use Rattle.line_trial.specs.inner.Turning.{Turned}
+use borrow.Author.Rules.{rules}
+use mathlib.Core.Path.{sym, ap, ◌∙◌}
+use native.Mathlib.Omega.{arith}
+use Rattle.lamp_line.specs.Tables.{Tables, world_state}
+use Rattle.job_file.proofs.WellFormed.{tables_are, well_formed_by}
+use Rattle.run_laws.proofs.Pairs.{pairs_few}
+use Rattle.working_list.proofs.ListLaws.{count_fits}
+use Rattle.line_trial.proofs.LastLeg.{start_unmarked_lem, start_marked, lamp_column_small, lamp_begins}
+use Rattle.line_trial.proofs.last_leg.Goals as goal
+
+pub returns-then-is_start : goal.returns-then-is_start
+returns-then-is_start c =
+    start_marked c.if-kind-eq0.true (well_formed_by _ _ c.requires.0) c.requires.3
+    (sym c.if-is_start.true ∙ c.is_start.ensures
+    ∙ ap (λ (t : Tables). t.start (world_state c.args.member)) (sym (tables_are _ _ c.requires.0)))
+
+pub returns-then-kind-eq0 : goal.returns-then-kind-eq0
+returns-then-kind-eq0 c =
+    start_unmarked_lem c.if-kind-eq0.true
+    (sym c.if-is_start.false ∙ c.is_start.ensures
+    ∙ ap (λ (t : Tables). t.start (world_state c.args.member)) (sym (tables_are _ _ c.requires.0)))
+
+pub offset_bounds-list-member : goal.offset_bounds-list-member
+offset_bounds-list-member c =
+    omega (arith, c.requires.2.a_place (omega (arith, c.if-kind-eq0.false)), count_fits c.requires.1, pairs_few (well_formed_by _ _ c.requires.0))
+
+pub bounds-list-member : goal.bounds-list-member
+bounds-list-member c =
+    omega (arith, c.requires.2.a_place (omega (arith, c.if-kind-eq0.false)), count_fits c.requires.1, c.requires.1.list_room)
+
+pub lamp_column-requires : goal.lamp_column-requires
+lamp_column-requires c =
+    lamp_column_small (well_formed_by _ _ c.requires.0) c.requires.2
+
+pub returns : goal.returns
+returns c =
+    lamp_begins c.requires.1 c.requires.2 (omega (arith, c.if-kind-eq0.false)) c.unpack-before.ensures c.lamp_column.ensures

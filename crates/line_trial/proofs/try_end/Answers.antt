@@ -1,0 +1,43 @@
+use Rattle.std.proofs.Common.{rules, ◌≡◌, ◌&&◌, ◌*◌, ◌≤◌, ◌<◌, eqb, length, ℕ, ◌+◌, ◌-◌, ◌/◌, ◌%◌, Bool, true, false, nat_lt, List, [], ◌∷◌, ◌++◌, slice_index_or, slice_set, bit_and, bit_or, Fits, w8, w32, w64, Bor, MutBor}
+use Rattle.job_layout.specs.JobTables.{tables_by}
+use Rattle.job_file.specs.Reading.{Opened}
+use Rattle.lamp_fates.specs.inner.Memory.{Memory}
+use Rattle.pair_bits.specs.Sum.{bit_at}
+use Rattle.working_list.specs.inner.Listing.{table, Listed}
+use Rattle.line_trial.specs.inner.Trials.{Ready, HasMember, Begins, TriedBelow, TriesEnd, TriesLine}
+use Rattle.line_trial.specs.inner.Turning.{Turned}
+use borrow.Author.Rules.{rules}
+use mathlib.Core.Path.{◌≡◌, refl, ◌∙◌}
+use native.Mathlib.Omega.{arith}
+use lib.ListN.{length}
+use Rattle.line_trial.proofs.LastLeg.{begins_nowhere, begins_from}
+use Rattle.line_trial.proofs.TryingEnds.{Trying, bit_in_words}
+use Rattle.line_trial.proofs.TryingEnds.{tries_met, tries_failing, tries_ending, tries_succeeding, passes_lamp, tries_on}
+use Rattle.line_trial.proofs.try_end.Goals as goal
+
+pub is_met-requires : goal.is_met-requires
+is_met-requires c =
+    omega (arith, c.pair_number.ensures, bit_in_words c.loop-job.invariant.0)
+
+pub returns-then-is_met : goal.returns-then-is_met
+returns-then-is_met c =
+    tries_met c.loop-job.invariant.0 c.pair_number.ensures c.is_met.ensures c.if-is_met.true
+
+pub returns-in-Fails : goal.returns-in-Fails
+returns-in-Fails c =
+    tries_failing c.loop-job.invariant.0 c.pair_number.ensures c.is_met.ensures c.if-is_met.false c.fate_at-fate.ensures
+    c.in-Fails.is
+
+pub returns-then-column-end : goal.returns-then-column-end
+returns-then-column-end c =
+    tries_ending c.loop-job.invariant.0 c.pair_number.ensures c.is_met.ensures c.if-is_met.false c.fate_at-fate.ensures
+    c.in_default-fate.not-Fails c.if-column-end.true
+
+pub returns-in_default-fate-2 : goal.returns-in_default-fate-2
+returns-in_default-fate-2 c =
+    tries_succeeding c.loop-job.invariant.0 c.fate_at-fate.ensures c.if-column-end.false c.in_default-fate.not-Fails c.in_default-fate-2.not-Arrives
+
+pub loop-job-preserved : goal.loop-job-preserved
+loop-job-preserved c =
+    let o = c.loop-job.invariant in
+    (tries_on o.0 c.fate_at-fate.ensures c.if-column-end.false c.in-Arrives.is, c.fate_at-fate.auto.memory ∙ o.1)

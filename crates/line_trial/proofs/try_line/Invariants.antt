@@ -1,0 +1,36 @@
+use Rattle.std.proofs.Common.{◌≡◌, ◌&&◌, ◌*◌, ◌≤◌, ◌<◌, eqb, length, ℕ, ◌+◌, ◌-◌}
+use Rattle.job_layout.specs.JobTables.{tables_by}
+use Rattle.job_file.specs.Reading.{Opened}
+use Rattle.lamp_fates.specs.inner.Memory.{Memory}
+use Rattle.pair_bits.specs.Sum.{bit_at}
+use Rattle.working_list.specs.inner.Listing.{table, Listed}
+use Rattle.line_trial.specs.inner.Trials.{Ready, HasMember, Begins, TriedBelow, TriesEnd, TriesLine}
+use Rattle.line_trial.specs.inner.Turning.{Turned}
+use borrow.Author.Rules.{rules}
+use mathlib.Core.Path.{◌≡◌, refl, ◌∙◌}
+use Prim.Native.Nat.{◌-◌, ◌≤◌}
+use native.Mathlib.Omega.{arith}
+use lib.ListN.{length}
+use Rattle.job_layout.specs.JobTables.{tables_by}
+use Rattle.working_list.specs.inner.Listing.{table}
+use Rattle.line_trial.specs.inner.Trials.{Ready, TriedBelow}
+use Rattle.line_trial.proofs.LineTried.{none_below, end_decides, next_end, all_ends_tried}
+use borrow.Author.Rules.{rules}
+use mathlib.Core.Path.{◌≡◌, refl, ◌∙◌}
+use Prim.Native.Nat.{◌-◌, ◌≤◌}
+use native.Mathlib.Omega.{arith}
+use lib.ListN.{length}
+use Rattle.job_layout.specs.JobTables.{tables_by}
+use Rattle.working_list.specs.inner.Listing.{table}
+use Rattle.line_trial.specs.inner.Trials.{Ready, TriedBelow}
+use Rattle.line_trial.proofs.LineTried.{none_below, end_decides, next_end, all_ends_tried}
+use Rattle.line_trial.proofs.try_line.Given as goal
+
+abbrev pub invariant-loop-state : goal.invariant-loop-state
+invariant-loop-state l =
+    Ready l.file l.job l.memory × (l.end ≤ l.job.ends) × TriedBelow (tables_by l.file l.job) (table (tables_by l.file l.job) l.list l.count) l.member l.kind l.end
+    × (length l.memory ≡ length l.initial.memory)
+
+abbrev pub decreases-loop-state : goal.decreases-loop-state
+decreases-loop-state l =
+    l.job.ends - l.end

@@ -1,0 +1,151 @@
+use Rattle.std.proofs.Common.{rules, ◌+◌, ◌*◌, ◌≤◌, length, ◌≡◌, ℕ, ◌-◌, ◌<◌, ◌/◌, ◌%◌, Bool, true, false, nat_eq, nat_lt, List, [], ◌∷◌, ◌++◌, slice_index_or, slice_set, bit_and, bit_or, Fits, w8, w32, w64, Bor, MutBor}
+use Rattle.job_layout.specs.JobTables.{tables_by}
+use Rattle.run_laws.specs.inner.Pairs.{pairs}
+use Rattle.line_trial.specs.inner.Trials.{Ready}
+use Rattle.plan_search.specs.inner.Searching.{Searched}
+use borrow.Author.Rules.{rules}
+use borrow.Author.Tests.{ltb-true, ltb-false}
+use mathlib.Core.Path.{◌≡◌, refl, ◌∙◌}
+use mathlib.Core.Logic.{inl, inr, ⊎_elim}
+use mathlib.Core.Bool.{true}
+use native.Mathlib.Omega.{arith}
+use Prim.Native.Nat.{◌+◌, ◌-◌}
+use lib.ListN.{length}
+use Rattle.run_laws.proofs.Pairs.{pairs_few}
+use Rattle.pair_bits.proofs.Sums.{sum_le}
+use Rattle.line_trial.proofs.TryingEnds.{ready_tables}
+use Rattle.plan_search.proofs.Sweeps.{Sweeping, sweeping_begins, sweeping_member, sweeping_on, sweeping_fails, sweeping_keeps}
+use Rattle.plan_search.proofs.Sweeps.{members_few, sweeping_lowest, sweeping_done, sweeping_failed}
+use Rattle.plan_search.proofs.SearchLoops.{AtKind, AtGroup, Enters, search_begins, kind_few, group_members, kind_held, kind_failed}
+use Rattle.plan_search.proofs.SearchLoops.{kinds_through, lamps_small, enters_layer, enters_next, through, stopped}
+use Rattle.plan_search.proofs.SearchLoops.{next_held, group_some, group_begun}
+use Rattle.plan_search.proofs.search_groups.Goals as goal
+
+pub search-init : goal.search-init
+search-init c =
+    (
+      search_begins _ c.requires.0 c.clear_bits.ensures c.requires.1 (omega (arith, c.requires.2, c.clear_bits.auto.words)),
+      refl,
+      refl,
+      refl,
+      refl,
+    )
+
+pub loop-member-init : goal.loop-member-init
+loop-member-init c =
+    let i = c.loop-kind.invariant in
+    let at = i.0 in
+    (sweeping_begins at.ready at.listed (group_members at (omega (arith, c.loop-kind-test.true))) i.1, refl, refl, refl)
+
+pub overflow_add-member : goal.overflow_add-member
+overflow_add-member c =
+    omega (arith, c.loop-member-test.true, members_few c.loop-member.invariant.0)
+
+pub loop-member-preserved : goal.loop-member-preserved
+loop-member-preserved c =
+    let l = c.loop-member.invariant in
+    let at = l.0 in
+    let here = c.loop-member-test.true in
+    let turned = c.try_member-turn.ensures.0 in
+    let remembers = c.try_member-turn.ensures.1 in (
+      ⊎_elim
+          (λ (keys, turn, told, above, first, count-is, clean_is, lowest-is, ended_is).
+          rw (count-is, clean_is, lowest-is, ended_is)
+          (sweeping_fails at here turned remembers turn.given.1 (omega (arith, above.left))
+          (⊎_elim (λ none. inl none.taken) (λ (some, lower). inr (ltb-true _ _ lower.taken)) first.came)))
+          (⊎_elim
+          (λ (keys, turn, told, above, some, higher, count-is, clean_is, lowest-is, ended_is).
+          rw (count-is, clean_is, lowest-is, ended_is)
+          (sweeping_keeps at here turned remembers turn.given.1 some.left (ltb-false _ _ higher.left)))
+          (λ (keys, turn, told, count-is, clean_is, lowest-is, ended_is).
+          rw (count-is, clean_is, lowest-is, ended_is) (sweeping_on at here turned remembers turn.given.1)))
+          c.in-Fails.branch,
+      c.try_member-turn.auto.memory ∙ l.1,
+      c.try_member-turn.auto.list ∙ l.2,
+      c.try_member-turn.auto.words ∙ l.3,
+    )
+
+pub overflow_add-kind : goal.overflow_add-kind
+overflow_add-kind c =
+    omega (arith, kind_few c.loop-kind.invariant.0 (omega (arith, c.loop-kind-test.true)))
+
+pub loop-kind-preserved : goal.loop-kind-preserved
+loop-kind-preserved c =
+    let m = c.loop-member.invariant in
+    let l = c.loop-kind.invariant in (
+      kind_held l.0 (omega (arith, c.loop-kind-test.true)) (sweeping_done m.0 (omega (arith, c.loop-member-test.false)) c.if-clean-2.true)
+          m.0.ready m.0.listed,
+      c.if-clean-2.true,
+      m.1 ∙ l.2,
+      m.2 ∙ l.3,
+      m.3 ∙ l.4,
+    )
+
+pub overflow_add-lamps : goal.overflow_add-lamps
+overflow_add-lamps c =
+    let at_next : let a = c.args in let s = c.search in let l = c.loop-kind in AtGroup a.file.now a.job a.longest l.memory l.list l.words l.count s.next s.layer s.lamps = kinds_through c.loop-kind.invariant.0 (omega (arith, c.loop-kind-test.false)) in
+    omega (arith, lamps_small at_next)
+
+pub overflow_cast-reached : goal.overflow_cast-reached
+overflow_cast-reached c =
+    let at_next : let a = c.args in let s = c.search in let l = c.loop-kind in AtGroup a.file.now a.job a.longest l.memory l.list l.words l.count s.next s.layer s.lamps = kinds_through c.loop-kind.invariant.0 (omega (arith, c.loop-kind-test.false)) in
+    omega (arith, sum_le c.sum_bits-reached.ensures, pairs_few (ready_tables at_next.ready))
+
+pub group_end-to-requires : goal.group_end-to-requires
+group_end-to-requires c =
+    let at_next : let a = c.args in let s = c.search in let l = c.loop-kind in AtGroup a.file.now a.job a.longest l.memory l.list l.words l.count s.next s.layer s.lamps = kinds_through c.loop-kind.invariant.0 (omega (arith, c.loop-kind-test.false)) in
+    let entered : let a = c.args in let l = c.loop-kind in Enters a.file.now a.job a.longest l.memory l.list l.words l.count c.search.next c.if-next-layer.layer c.if-next-layer.lamps = let at = at_next in
+    ⊎_elim
+    (λ (end, more, short, layer-is, lamps-is).
+    rw (layer-is, lamps-is) (enters_next at end.taken more.left (ltb-false _ _ short.left) (omega arith)))
+    (λ (inside, layer-is, lamps-is). rw (layer-is, lamps-is) (enters_layer at inside.left))
+    c.if-next-layer.branch in
+    next_held entered
+
+pub search-smaller : goal.search-smaller
+search-smaller c =
+    let at_next : let a = c.args in let s = c.search in let l = c.loop-kind in AtGroup a.file.now a.job a.longest l.memory l.list l.words l.count s.next s.layer s.lamps = kinds_through c.loop-kind.invariant.0 (omega (arith, c.loop-kind-test.false)) in
+    let entered : let a = c.args in let l = c.loop-kind in Enters a.file.now a.job a.longest l.memory l.list l.words l.count c.search.next c.if-next-layer.layer c.if-next-layer.lamps = let at = at_next in
+    ⊎_elim
+    (λ (end, more, short, layer-is, lamps-is).
+    rw (layer-is, lamps-is) (enters_next at end.taken more.left (ltb-false _ _ short.left) (omega arith)))
+    (λ (inside, layer-is, lamps-is). rw (layer-is, lamps-is) (enters_layer at inside.left))
+    c.if-next-layer.branch in
+    let at = entered in
+    omega (arith, group_some at c.group_end-to.ensures, (next_held at).0, (next_held at).2)
+
+pub search-preserved : goal.search-preserved
+search-preserved c =
+    let at_next : let a = c.args in let s = c.search in let l = c.loop-kind in AtGroup a.file.now a.job a.longest l.memory l.list l.words l.count s.next s.layer s.lamps = kinds_through c.loop-kind.invariant.0 (omega (arith, c.loop-kind-test.false)) in
+    let entered : let a = c.args in let l = c.loop-kind in Enters a.file.now a.job a.longest l.memory l.list l.words l.count c.search.next c.if-next-layer.layer c.if-next-layer.lamps = let at = at_next in
+    ⊎_elim
+    (λ (end, more, short, layer-is, lamps-is).
+    rw (layer-is, lamps-is) (enters_next at end.taken more.left (ltb-false _ _ short.left) (omega arith)))
+    (λ (inside, layer-is, lamps-is). rw (layer-is, lamps-is) (enters_layer at inside.left))
+    c.if-next-layer.branch in
+    let i = c.loop-kind.invariant in
+    let s = c.search.invariant in
+    (group_begun entered c.group_end-to.ensures, i.1, i.2 ∙ s.2, i.3 ∙ s.3, i.4 ∙ s.4)
+
+pub returns-then-end-eq0 : goal.returns-then-end-eq0
+returns-then-end-eq0 c =
+    kind_failed c.loop-kind.invariant.0 (omega (arith, c.loop-kind-test.true))
+    (sweeping_lowest c.loop-member.invariant.0 c.loop-member-test.true c.try_member-turn.ensures.0 c.try_member-turn.ensures.1 c.in-Fails.is
+    (omega (arith, c.if-end-eq0.true)))
+
+pub returns-else-clean-2 : goal.returns-else-clean-2
+returns-else-clean-2 c =
+    let (w, kind, ended_is, fails) = sweeping_failed c.loop-member.invariant.0 (omega (arith, c.loop-member-test.false)) c.if-clean-2.false in
+    rw ended_is (kind_failed c.loop-kind.invariant.0 (omega (arith, c.loop-kind-test.true)) fails)
+
+pub returns-then-count-layer : goal.returns-then-count-layer
+returns-then-count-layer c =
+    let at_next : let a = c.args in let s = c.search in let l = c.loop-kind in AtGroup a.file.now a.job a.longest l.memory l.list l.words l.count s.next s.layer s.lamps = kinds_through c.loop-kind.invariant.0 (omega (arith, c.loop-kind-test.false)) in
+    let at = at_next in
+    let end = c.if-next-layer.true in
+    record {
+      so =
+          ⊎_elim (λ none. through at end c.sum_bits-reached.ensures none.taken)
+          (λ (more, long). stopped at end c.sum_bits-reached.ensures more.left (ltb-true _ _ long.taken) (omega arith))
+          c.if-count-layer.branch;
+    }
