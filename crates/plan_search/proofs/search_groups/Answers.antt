@@ -20,6 +20,9 @@ use Rattle.plan_search.proofs.SearchLoops.{AtKind, AtGroup, Enters, search_begin
 use Rattle.plan_search.proofs.SearchLoops.{kinds_through, lamps_small, enters_layer, enters_next, through, stopped}
 use Rattle.plan_search.proofs.SearchLoops.{next_held, group_some, group_begun}
 use Rattle.plan_search.proofs.search_groups.Goals as goal
+use Rattle.plan_search.proofs.search_groups.Goals.{in-Fails+else-end-eq0+then-clean, then-clean-via-then-clean, then-clean-via-else-clean+then-end-lowest, in-Fails+else-end-eq0+else-clean+else-end-lowest, in-Holds}
+use Rattle.plan_search.proofs.search_groups.Goals.{then-count-layer-via-then-count-layer, then-count-layer-via-else-count-layer+then-longest-lamps}
+use Rattle.plan_search.proofs.search_groups.Goals.{then-next-layer+else-count-layer+else-longest-lamps, else-next-layer}
 
 pub search-init : goal.search-init
 search-init c =
@@ -48,18 +51,20 @@ loop-member-preserved c =
     let here = c.loop-member-test.true in
     let turned = c.try_member-turn.ensures.0 in
     let remembers = c.try_member-turn.ensures.1 in (
-      ⊎_elim
-          (λ (keys, turn, told, above, first, count-is, clean_is, lowest-is, ended_is).
-          rw (count-is, clean_is, lowest-is, ended_is)
-          (sweeping_fails at here turned remembers turn.given.1 (omega (arith, above.left))
-          (⊎_elim (λ none. inl none.taken) (λ (some, lower). inr (ltb-true _ _ lower.taken)) first.came)))
-          (⊎_elim
-          (λ (keys, turn, told, above, some, higher, count-is, clean_is, lowest-is, ended_is).
-          rw (count-is, clean_is, lowest-is, ended_is)
-          (sweeping_keeps at here turned remembers turn.given.1 some.left (ltb-false _ _ higher.left)))
-          (λ (keys, turn, told, count-is, clean_is, lowest-is, ended_is).
-          rw (count-is, clean_is, lowest-is, ended_is) (sweeping_on at here turned remembers turn.given.1)))
-          c.in-Fails.branch,
+      elim c.match-turn.branch [
+          in-Fails+else-end-eq0+then-clean w ↦
+            rw (w.count-is, w.clean-is, w.lowest-is, w.ended-is)
+            (sweeping_fails at here turned remembers w.in-Fails.is (omega (arith, w.if-end-eq0.false))
+            (elim w.then-clean.branch [
+                then-clean-via-then-clean v ↦ inl v.if-clean.true
+              | then-clean-via-else-clean+then-end-lowest v ↦ inr v.if-end-lowest.true
+            ]))
+        | in-Fails+else-end-eq0+else-clean+else-end-lowest w ↦
+            rw (w.count-is, w.clean-is, w.lowest-is, w.ended-is)
+            (sweeping_keeps at here turned remembers w.in-Fails.is w.if-clean.false w.if-end-lowest.false)
+        | in-Holds w ↦
+            rw (w.count-is, w.clean-is, w.lowest-is, w.ended-is) (sweeping_on at here turned remembers w.in-Holds.is)
+      ],
       c.try_member-turn.auto.memory ∙ l.1,
       c.try_member-turn.auto.list ∙ l.2,
       c.try_member-turn.auto.words ∙ l.3,
@@ -95,22 +100,22 @@ pub group_end-to-requires : goal.group_end-to-requires
 group_end-to-requires c =
     let at_next : let a = c.args in let s = c.search in let l = c.loop-kind in AtGroup a.file.now a.job a.longest l.memory l.list l.words l.count s.next s.layer s.lamps = kinds_through c.loop-kind.invariant.0 (omega (arith, c.loop-kind-test.false)) in
     let entered : let a = c.args in let l = c.loop-kind in Enters a.file.now a.job a.longest l.memory l.list l.words l.count c.search.next c.if-next-layer.layer c.if-next-layer.lamps = let at = at_next in
-    ⊎_elim
-    (λ (end, more, short, layer-is, lamps-is).
-    rw (layer-is, lamps-is) (enters_next at end.taken more.left (ltb-false _ _ short.left) (omega arith)))
-    (λ (inside, layer-is, lamps-is). rw (layer-is, lamps-is) (enters_layer at inside.left))
-    c.if-next-layer.branch in
+    elim c.if-next-layer.branch [
+        then-next-layer+else-count-layer+else-longest-lamps w ↦
+          rw (w.layer-is, w.lamps-is) (enters_next at w.if-next-layer.true w.if-count-layer.false w.if-longest-lamps.false (omega arith))
+      | else-next-layer w ↦ rw (w.layer-is, w.lamps-is) (enters_layer at w.if-next-layer.false)
+    ] in
     next_held entered
 
 pub search-smaller : goal.search-smaller
 search-smaller c =
     let at_next : let a = c.args in let s = c.search in let l = c.loop-kind in AtGroup a.file.now a.job a.longest l.memory l.list l.words l.count s.next s.layer s.lamps = kinds_through c.loop-kind.invariant.0 (omega (arith, c.loop-kind-test.false)) in
     let entered : let a = c.args in let l = c.loop-kind in Enters a.file.now a.job a.longest l.memory l.list l.words l.count c.search.next c.if-next-layer.layer c.if-next-layer.lamps = let at = at_next in
-    ⊎_elim
-    (λ (end, more, short, layer-is, lamps-is).
-    rw (layer-is, lamps-is) (enters_next at end.taken more.left (ltb-false _ _ short.left) (omega arith)))
-    (λ (inside, layer-is, lamps-is). rw (layer-is, lamps-is) (enters_layer at inside.left))
-    c.if-next-layer.branch in
+    elim c.if-next-layer.branch [
+        then-next-layer+else-count-layer+else-longest-lamps w ↦
+          rw (w.layer-is, w.lamps-is) (enters_next at w.if-next-layer.true w.if-count-layer.false w.if-longest-lamps.false (omega arith))
+      | else-next-layer w ↦ rw (w.layer-is, w.lamps-is) (enters_layer at w.if-next-layer.false)
+    ] in
     let at = entered in
     omega (arith, group_some at c.group_end-to.ensures, (next_held at).0, (next_held at).2)
 
@@ -118,11 +123,11 @@ pub search-preserved : goal.search-preserved
 search-preserved c =
     let at_next : let a = c.args in let s = c.search in let l = c.loop-kind in AtGroup a.file.now a.job a.longest l.memory l.list l.words l.count s.next s.layer s.lamps = kinds_through c.loop-kind.invariant.0 (omega (arith, c.loop-kind-test.false)) in
     let entered : let a = c.args in let l = c.loop-kind in Enters a.file.now a.job a.longest l.memory l.list l.words l.count c.search.next c.if-next-layer.layer c.if-next-layer.lamps = let at = at_next in
-    ⊎_elim
-    (λ (end, more, short, layer-is, lamps-is).
-    rw (layer-is, lamps-is) (enters_next at end.taken more.left (ltb-false _ _ short.left) (omega arith)))
-    (λ (inside, layer-is, lamps-is). rw (layer-is, lamps-is) (enters_layer at inside.left))
-    c.if-next-layer.branch in
+    elim c.if-next-layer.branch [
+        then-next-layer+else-count-layer+else-longest-lamps w ↦
+          rw (w.layer-is, w.lamps-is) (enters_next at w.if-next-layer.true w.if-count-layer.false w.if-longest-lamps.false (omega arith))
+      | else-next-layer w ↦ rw (w.layer-is, w.lamps-is) (enters_layer at w.if-next-layer.false)
+    ] in
     let i = c.loop-kind.invariant in
     let s = c.search.invariant in
     (group_begun entered c.group_end-to.ensures, i.1, i.2 ∙ s.2, i.3 ∙ s.3, i.4 ∙ s.4)
@@ -145,7 +150,9 @@ returns-then-count-layer c =
     let end = c.if-next-layer.true in
     record {
       so =
-          ⊎_elim (λ none. through at end c.sum_bits-reached.ensures none.taken)
-          (λ (more, long). stopped at end c.sum_bits-reached.ensures more.left (ltb-true _ _ long.taken) (omega arith))
-          c.if-count-layer.branch;
+          elim c.then-count-layer.branch [
+              then-count-layer-via-then-count-layer w ↦ through at end c.sum_bits-reached.ensures w.if-count-layer.true
+            | then-count-layer-via-else-count-layer+then-longest-lamps w ↦
+                stopped at end c.sum_bits-reached.ensures w.if-count-layer.false w.if-longest-lamps.true (omega arith)
+          ];
     }

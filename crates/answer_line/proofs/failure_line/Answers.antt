@@ -1,0 +1,27 @@
+use Rattle.std.proofs.Common.{rules, [], ◌∷◌, ◌++◌, ◌+◌, ◌≤◌, length, ◌≡◌, ℕ, ◌-◌, ◌*◌, ◌<◌, ◌/◌, ◌%◌, Bool, true, false, nat_eq, nat_lt, List, slice_index_or, slice_set, bit_and, bit_or, Fits, w8, w32, w64, Bor, MutBor}
+use Rattle.lamp_line.specs.Endings.{kind_number}
+use Rattle.lamp_line.specs.Check.{failed}
+use Rattle.plan_check.specs.CheckAnswers.{failed_line}
+use Rattle.answer_line.specs.AnswerLine.{fails_text, text_line, verdict_line, AnswerIn}
+use Rattle.answer_line.specs.inner.Writing.{Wrote}
+use borrow.Author.Rules.{rules}
+use mathlib.Core.Path.{refl, ◌∙◌}
+use mathlib.Core.List.{[], ◌∷◌, ◌++◌}
+use native.Mathlib.Omega.{arith}
+use lib.ListN.{length}
+use Rattle.lamp_line.specs.Endings.{kind_number}
+use Rattle.answer_line.proofs.Writing.{wrote_number, wrote_last, wrote_then}
+use Rattle.answer_line.proofs.failure_line.Goals as goal
+
+pub returns : goal.returns
+returns c =
+    let a = c.args in
+    let kinds = a.kinds.now in
+    let rest = kinds ++ (a.end ∷ []) in
+    let end = wrote_last kinds a.end _ c.wide-3.ensures c.put_bytes-after_kinds.ensures.0 c.put_number-after_end.ensures.0 in
+    let count = wrote_number (length kinds) _ rest refl c.put_number-after_count.ensures.0 end in
+    let first = wrote_number a.start.0 _ (length kinds ∷ rest) c.wide-2.ensures c.put_number-after_start.ensures.0 count in
+    let kind =
+    wrote_number (kind_number a.kind) _ (a.start.0 ∷ length kinds ∷ rest)
+    (c.wide.ensures ∙ c.failure_number.ensures) c.put_number-after_kind.ensures.0 first in
+    wrote_then c.put_word-after_word.ensures (wrote_then kind c.put_byte.ensures)

@@ -1,0 +1,23 @@
+use Rattle.std.proofs.Common.{length, ◌-◌, ◌≡◌, [], ◌∷◌, ◌+◌, ◌*◌, ◌<◌, ◌≤◌, ℕ}
+use Rattle.answer_line.specs.AnswerLine.{decimal_by, numbers}
+use Rattle.answer_line.specs.inner.Writing.{Wrote}
+use borrow.Author.Rules.{rules}
+use mathlib.Core.Path.{◌≡◌, refl, subst, ◌∙◌}
+use mathlib.Core.List.{[], ◌∷◌}
+use Prim.Native.Nat.{◌+◌, ◌*◌, ◌-◌, ◌≤◌, ◌<◌}
+use native.Mathlib.Omega.{arith}
+use lib.ListN.{length, take}
+use lib.Seq.{take_all}
+use Rattle.answer_line.specs.AnswerLine.{numbers}
+use Rattle.answer_line.specs.inner.Writing.{Wrote}
+use Rattle.answer_line.proofs.Writing.{next_number, wrote_then}
+use Rattle.answer_line.proofs.text.put_bytes.Given as goal
+
+abbrev pub invariant-loop-i : goal.invariant-loop-i
+invariant-loop-i l =
+    (l.i ≤ length l.bytes) × (length l.out ≡ length l.initial.out) × (l.next ≤ l.at + 11 * l.i) × Wrote l.initial.out l.at (numbers (take l.i l.bytes)) l.next l.out
+
+-- proposed from the loop's first test
+abbrev pub decreases-loop-i : goal.decreases-loop-i
+decreases-loop-i l =
+    length l.bytes - l.i
