@@ -11,6 +11,16 @@ use lib.Seq.{take_all}
 use Rattle.answer_line.specs.AnswerLine.{numbers}
 use Rattle.answer_line.specs.inner.Writing.{Wrote}
 use Rattle.answer_line.proofs.Writing.{next_number, wrote_then}
+use borrow.Author.Rules.{rules}
+use mathlib.Core.Path.{◌≡◌, refl, subst, ◌∙◌}
+use mathlib.Core.List.{[], ◌∷◌}
+use Prim.Native.Nat.{◌+◌, ◌*◌, ◌-◌, ◌≤◌, ◌<◌}
+use native.Mathlib.Omega.{arith}
+use lib.ListN.{length, take}
+use lib.Seq.{take_all}
+use Rattle.answer_line.specs.AnswerLine.{numbers}
+use Rattle.answer_line.specs.inner.Writing.{Wrote}
+use Rattle.answer_line.proofs.Writing.{next_number, wrote_then}
 use Rattle.answer_line.proofs.text.put_bytes.Given as goal
 
 abbrev pub invariant-loop-i : goal.invariant-loop-i

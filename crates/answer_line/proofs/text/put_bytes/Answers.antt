@@ -1,0 +1,32 @@
+use Rattle.std.proofs.Common.{rules, ◌≡◌, [], ◌∷◌, ◌+◌, ◌*◌, ◌<◌, ◌≤◌, length, ℕ, ◌-◌, ◌/◌, ◌%◌, Bool, true, false, nat_eq, nat_lt, List, ◌++◌, slice_index_or, slice_set, bit_and, bit_or, Fits, w8, w32, w64, Bor, MutBor}
+use Rattle.answer_line.specs.AnswerLine.{decimal_by, numbers}
+use Rattle.answer_line.specs.inner.Writing.{Wrote}
+use borrow.Author.Rules.{rules}
+use mathlib.Core.Path.{◌≡◌, refl, subst, ◌∙◌}
+use mathlib.Core.List.{[], ◌∷◌}
+use Prim.Native.Nat.{◌+◌, ◌*◌, ◌-◌, ◌≤◌, ◌<◌}
+use native.Mathlib.Omega.{arith}
+use lib.ListN.{length, take}
+use lib.Seq.{take_all}
+use Rattle.answer_line.specs.AnswerLine.{numbers}
+use Rattle.answer_line.specs.inner.Writing.{Wrote}
+use Rattle.answer_line.proofs.Writing.{next_number, wrote_then}
+use Rattle.answer_line.proofs.text.put_bytes.Goals as goal
+
+pub loop-i-init : goal.loop-i-init
+unfolding numbers
+loop-i-init c =
+    (omega arith, refl, omega arith, record { place = omega arith; content = refl })
+
+pub loop-i-preserved : goal.loop-i-preserved
+loop-i-preserved c =
+    let o = c.loop-i in
+    let a = c.args in
+    let i< : o.i < length a.bytes.now = c.loop-i-test.true in
+    let more = subst (λ n. Wrote o.out o.next (numbers (n ∷ [])) c.put_number-next.result c.put_number-next.new.out) c.wide-n.ensures c.put_number-next.ensures.0 in (
+      omega arith,
+      c.put_number-next.auto.out ∙ o.invariant.1,
+      omega (arith, c.put_number-next.ensures.1, o.invariant.2),
+      subst (λ text. Wrote a.out.now a.at text c.put_number-next.result c.put_number-next.new.out) (next_number a.bytes.now o.i i<)
+          (wrote_then o.invariant.3 more),
+    )
