@@ -1,6 +1,6 @@
 // The program started with an argument, and with a job on standard input that would be accepted: it answers nothing.
 #![tactic(auto)]
 
-fn main() {
-    job_input::answer_or_explain();
+fn main(rt: HostRuntime) {
+    job_input::answer_or_explain(&rt);
 }

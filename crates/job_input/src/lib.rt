@@ -3,78 +3,73 @@
 // says how it is used.
 #![tactic(auto)]
 
-ghost use Rattle.std.specs.Prelude.{◌≤◌, length};
+ghost use Rattle.std.specs.Prelude.{◌≤◌, IfOk, length};
 
 use answer_line::answer_line;
-use libc::{STDERR_FILENO, STDIN_FILENO, STDOUT_FILENO};
+use std::env::{Env, FillError};
+use std::io;
+use std::io::Read;
 
-// How many bytes came before the input ended, the buffer was full or a read failed; and whether a read failed.
-#[derive(Clone, Copy)]
-struct Input {
-    size: usize,
-    failed: bool,
-}
-
-// Reads until the input ends. One read may give fewer bytes than the input still has.
-fn read_input(buf: &mut [u8]) -> Input
-    ensures { result.size ≤ length buf.new }
+// Reads until the input ends or the buffer is full, and answers how many bytes came. One read may give fewer bytes than the input still has.
+fn read_input(input: &mut impl Read, buf: &mut [u8]) -> io::Result<usize>
+    ensures { IfOk result (λ size. size ≤ length buf.new) }
 {
     let mut size = 0;
     while size < buf.len() {
-        let got = libc::read(STDIN_FILENO, &mut buf[size..]);
-        if got < 0 {
-            return Input {
-                size: size,
-                failed: true,
-            };
-        }
-        let more = io::count(got, &buf[size..]);
+        let more = input.read(&mut buf[size..])?;
         if more == 0 {
             break;
         }
         size += more;
     }
-    Input {
-        size: size,
-        failed: false,
-    }
+    Ok(size)
+}
+
+// Says on standard error which stream failed, and why. Where that cannot be written, nobody is there to be told.
+fn complain(rt: &impl Eprint, stream: &str, error: io::Error) {
+    let _ = eprintln!(rt; "{stream}: {error}");
 }
 
 // Writes the line for a file.
-fn write_answer(file: &[u8]) {
-    let mut line = io::large_buffer();
+fn write_answer(rt: &(impl Print + Eprint), file: &[u8]) {
+    let mut line = [0u8; 65536];
     let length = answer_line(file, &mut line);
-    if !io::write_all(STDOUT_FILENO, &line[..length]) {
-        os::fail(b"standard output");
+    if let Err(error) = rt.write_all(&line[..length]) {
+        complain(rt, "standard output", error);
     }
 }
 
 // Answers the job file on standard input with one line on standard output. The buffer has one byte more than the longest file that is
 // not refused for its size: a longer input fills it, and is refused.
-fn answer_input() {
-    let mut file = io::large_buffer();
-    let input = read_input(&mut file);
-    if input.failed {
-        os::fail(b"standard input");
-        return;
+fn answer_input(rt: &(impl Input + Print + Eprint)) {
+    let mut file = [0u8; 65536];
+    match read_input(&mut rt.reader(), &mut file) {
+        Ok(size) => write_answer(rt, &file[..size]),
+        Err(error) => complain(rt, "standard input", error),
     }
-    let size = input.size;
-    write_answer(&file[..size]);
 }
 
 // Says on standard error how the program is used. Where that cannot be written, nobody is there to be told.
-fn explain_use() {
-    io::write_all(
-        STDERR_FILENO,
-        b"usage: nessflurry < JOB\nIt takes no arguments: for the job file on standard input it prints one line, and its exit status is always 0.\nFor files by name, and a status that tells: lampline check FILE..\n",
+fn explain_use(rt: &impl Eprint) {
+    let _ = rt.eprint(
+        "usage: nessflurry < JOB\nIt takes no arguments: for the job file on standard input it prints one line, and its exit status is always 0.\nFor files by name, and a status that tells: lampline check FILE..\n",
     );
 }
 
-// The whole program. The name by which it was started counts as an argument.
-pub fn answer_or_explain() {
-    if os::arg_count() > 1 {
-        explain_use();
+// Whether the program was started with an argument, be it an empty one: the name by which it was started is argument 0.
+fn has_arguments(rt: &impl Env) -> bool {
+    let mut argument = [0u8; 1];
+    match rt.arg(1, &mut argument) {
+        Err(FillError::NotPresent) => false,
+        _ => true,
+    }
+}
+
+// The whole program.
+pub fn answer_or_explain(rt: &(impl Env + Input + Print + Eprint)) {
+    if has_arguments(rt) {
+        explain_use(rt);
     } else {
-        answer_input();
+        answer_input(rt);
     }
 }

@@ -1,6 +1,6 @@
 // The program: for the job file on standard input it prints one line, `accepted`, `refused` or `fails` with their numbers.
 #![tactic(auto)]
 
-fn main() {
-    job_input::answer_or_explain();
+fn main(rt: HostRuntime) {
+    job_input::answer_or_explain(&rt);
 }

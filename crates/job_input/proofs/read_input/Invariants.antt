@@ -1,0 +1,9 @@
+-- What came so far is within the buffer, and each read that goes on leaves less room.
+use Rattle.std.proofs.Common.{◌≤◌, ◌-◌, length}
+use Rattle.job_input.proofs.read_input.Given as goal
+
+abbrev pub invariant-loop-size : goal.invariant-loop-size
+invariant-loop-size g l = l.size ≤ length l.buf
+
+abbrev pub decreases-loop-size : goal.decreases-loop-size
+decreases-loop-size g l = length l.buf - l.size
