@@ -2,6 +2,7 @@
 use lamp_line::failure_number;
 use plan_check::{CheckAnswer, Failure, ShortAnswer};
 use row_cases::printing::{print_counted, print_failure, print_refused};
+use std::io;
 
 // What a check tells. The number is 1 to 4 for a failure, whose start, lamps and kind of end follow; 100 and the refusal's number for a refusal; and 0
 // where no line fails, with the number of pairs for the full check, and for the short one with the number of lamps up to which none does.
@@ -78,18 +79,15 @@ pub fn check_lines(
 }
 
 // The answer, with its line at the front of the buffer. No job has 0 pairs, so a number of pairs says that the check was the full one.
-pub fn print_told(told: Told, buffer: &[u8]) {
+pub fn print_told(rt: &impl Print, told: Told, buffer: &[u8]) -> io::Result<()> {
     if 100 <= told.number {
-        print_refused(told.number - 100);
-        return;
+        return print_refused(rt, told.number - 100);
     }
     if 0 < told.number {
-        print_failure(told.number, told.start, told.lamps, buffer, told.end);
-        return;
+        return print_failure(rt, told.number, told.start, told.lamps, buffer, told.end);
     }
     if told.pairs == 0 {
-        print_counted(b" none up to", told.lamps as u64);
-        return;
+        return print_counted(rt, b" none up to", told.lamps as u64);
     }
-    print_counted(b" accepted", told.pairs as u64);
+    print_counted(rt, b" accepted", u64::from(told.pairs))
 }

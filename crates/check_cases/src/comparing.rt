@@ -4,6 +4,8 @@ use crate::plain_count::reached_pairs;
 use crate::plain_search::first_failing;
 use row_cases::printing::print_text;
 use row_cases::reading::{least, read_four};
+use std::io;
+use std::io::Read;
 
 // What the plain means tell: what the search finds, and where it finds nothing, for all lines the number of pairs.
 fn plain_told(file: &[u8], longest: usize, line: &mut [u8]) -> Told {
@@ -23,7 +25,7 @@ fn is_same_line(lamps: usize, buffer: &[u8], line: &[u8]) -> bool {
         return false;
     }
     let from = line.len() - lamps;
-    check::same(&buffer[..lamps], &line[from..])
+    &buffer[..lamps] == &line[from..]
 }
 
 // Whether two answers are the same, lines included. The first one's line is at the front of its buffer, the second one's at the end.
@@ -41,18 +43,17 @@ fn is_same(a: Told, buffer: &[u8], b: Told, line: &[u8]) -> bool {
 }
 
 // Compares a check, up to a number of lamps or of all lines, with the plain means. The buffers are large enough for every job of these rows.
-pub fn compare(file: &[u8]) {
-    let longest = read_four() as usize;
+pub fn compare(rt: &impl Print, rows: &mut impl Read, file: &[u8]) -> io::Result<()> {
+    let longest = read_four(rows)? as usize;
     let mut buffer = [1u8; 20];
     let mut list = [0u32; 20];
     let mut words = [0u64; 1];
     let told = check_lines(file, longest, &mut buffer, &mut list, &mut words);
     let mut line = [0u8; 4];
     let plain = plain_told(file, longest, &mut line);
-    print_told(told, &buffer);
+    print_told(rt, told, &buffer)?;
     if is_same(told, &buffer, plain, &line) {
-        print_text(b", as the plain search");
-        return;
+        return print_text(rt, b", as the plain search");
     }
-    print_text(b", not as the plain search");
+    print_text(rt, b", not as the plain search")
 }

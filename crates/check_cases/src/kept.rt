@@ -4,38 +4,22 @@ use crate::checking::Told;
 
 // Whether the line buffer still has its 7s from the given index on.
 fn line_kept(line: &[u8], from: usize) -> bool {
-    let mut i = from;
-    while i < line.len() {
+    for i in from..line.len() {
         if line[i] != 7 {
             return false;
         }
-        i += 1;
     }
     true
 }
 
 // Whether the working list still has all its 9s.
 fn list_kept(list: &[u32]) -> bool {
-    let mut i = 0;
-    while i < list.len() {
-        if list[i] != 9 {
-            return false;
-        }
-        i += 1;
-    }
-    true
+    list.iter().all(|number| *number == 9)
 }
 
 // Whether the words still have the content with which they were lent.
 fn words_kept(words: &[u64], content: u64) -> bool {
-    let mut i = 0;
-    while i < words.len() {
-        if words[i] != content {
-            return false;
-        }
-        i += 1;
-    }
-    true
+    words.iter().all(|word| *word == content)
 }
 
 // Whether the bytes that must be kept are kept: after a refusal all that was lent, after a failure all bytes of the line buffer that follow the line,

@@ -14,33 +14,35 @@ use crate::checks::check_with_buffers;
 use crate::comparing::compare;
 use row_cases::printing::print_text;
 use row_cases::reading::{print_field, read_byte, read_field};
+use std::io;
+use std::io::Read;
 
 // Makes the call with this number, which reads its own arguments and prints the answer.
-fn call(operation: u8, file: &[u8]) {
+fn call(rt: &impl Print, rows: &mut impl Read, operation: u8, file: &[u8]) -> io::Result<()> {
     match operation {
-        1 => check_with_buffers(file),
-        _ => compare(file),
+        1 => check_with_buffers(rt, rows, file),
+        _ => compare(rt, rows, file),
     }
 }
 
 // One row: a name, a file, and what the call reads itself.
-fn one_row(operation: u8) {
-    print_field();
-    let mut file = io::large_buffer();
-    let size = read_field(&mut file);
-    call(operation, &file[..size]);
-    print_text(b"\n");
+fn one_row(rt: &impl Print, rows: &mut impl Read, operation: u8) -> io::Result<()> {
+    print_field(rt, rows)?;
+    let mut file = [0u8; 65536];
+    let size = read_field(rows, &mut file)?;
+    call(rt, rows, operation, &file[..size])?;
+    print_text(rt, b"\n")
 }
 
 // The rows end with the number 0, which comes after the last byte too. They are counted, since nothing says that an input ends.
-fn main() {
-    let mut rows: u32 = 0;
-    while rows < 100000 {
-        let operation = read_byte();
+fn main(rt: HostRuntime) -> io::Result<()> {
+    let mut rows = rt.stdin();
+    for _ in 0..100000 {
+        let operation = read_byte(&mut rows)?;
         if operation == 0 {
-            return;
+            break;
         }
-        one_row(operation);
-        rows += 1;
+        one_row(&rt, &mut rows, operation)?;
     }
+    Ok(())
 }

@@ -73,10 +73,8 @@ pub fn reached_pairs(file: &[u8]) -> u32 {
     let shape = shape_of(file);
     let mut reached = [0u8; 4160];
     let mut pairs: u32 = 0;
-    let mut number: u32 = 0;
-    while number < 1331200 {
+    for number in 0..1331200 {
         pairs += reach_by(file, &mut reached, shape.first, number);
-        number += 1;
     }
     pairs
 }

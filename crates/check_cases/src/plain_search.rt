@@ -94,8 +94,7 @@ fn run_trial(file: &[u8], trial: Trial, lamps: usize, line: &[u8]) -> u8 {
 // The first trial that fails, of those with lines of up to `longest` lamps, which have to fit the buffer. Its line is left at the buffer's end.
 pub fn first_failing(file: &[u8], longest: usize, line: &mut [u8]) -> Told {
     let shape = shape_of(file);
-    let mut number: u32 = 0;
-    while number < 100000 {
+    for number in 0..100000 {
         let trial = trial_of(number, shape);
         let lamps = line_of(trial.line, shape.kinds, line);
         if longest < lamps {
@@ -111,7 +110,6 @@ pub fn first_failing(file: &[u8], longest: usize, line: &mut [u8]) -> Told {
                 pairs: 0,
             };
         }
-        number += 1;
     }
     Told {
         number: UNDECIDED,

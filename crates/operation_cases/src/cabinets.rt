@@ -3,6 +3,8 @@ use cabinet::{ActionAnswer, BeginAnswer, ReportAnswer};
 use lamp_line::{Cabinet, ProgramState};
 use row_cases::printing::{print_number, print_refused, print_text};
 use row_cases::reading::{read_byte, read_two};
+use std::io;
+use std::io::Read;
 
 // The cabinet's state with this program state and this number of lamps left.
 pub fn state_of(state: u8, lamps: u16) -> Cabinet {
@@ -13,61 +15,71 @@ pub fn state_of(state: u8, lamps: u16) -> Cabinet {
 }
 
 // The program state and the lamps left.
-fn print_state(cabinet: Cabinet) {
-    print_number(cabinet.state.0 as u64);
-    print_number(cabinet.lamps as u64);
+fn print_state(rt: &impl Print, cabinet: Cabinet) -> io::Result<()> {
+    print_number(rt, u64::from(cabinet.state.0))?;
+    print_number(rt, u64::from(cabinet.lamps))
 }
 
 // The state that a call is handed, which is printed: that of the call before, unless the row gives one.
-fn handed(before: Cabinet) -> Cabinet {
+fn handed(rt: &impl Print, rows: &mut impl Read, before: Cabinet) -> io::Result<Cabinet> {
     let mut cabinet = before;
-    if read_byte() == 1 {
-        cabinet = state_of(read_byte(), read_two());
+    if read_byte(rows)? == 1 {
+        cabinet = state_of(read_byte(rows)?, read_two(rows)?);
     }
-    print_text(b" at");
-    print_state(cabinet);
-    print_text(b":");
-    cabinet
+    print_text(rt, b" at")?;
+    print_state(rt, cabinet)?;
+    print_text(rt, b":")?;
+    Ok(cabinet)
 }
 
 // Begins with a count of lamps, which is read. After a refusal the state is 0 with no lamps.
-pub fn begin(file: &[u8]) -> Cabinet {
-    match cabinet::begin(file, read_two()) {
+pub fn begin(rt: &impl Print, rows: &mut impl Read, file: &[u8]) -> io::Result<Cabinet> {
+    match cabinet::begin(file, read_two(rows)?) {
         BeginAnswer::Begun(cabinet) => {
-            print_state(cabinet);
-            cabinet
+            print_state(rt, cabinet)?;
+            Ok(cabinet)
         }
         BeginAnswer::Refused(number) => {
-            print_refused(number);
-            state_of(0, 0)
+            print_refused(rt, number)?;
+            Ok(state_of(0, 0))
         }
     }
 }
 
 // Asks for the action.
-pub fn ask(file: &[u8], before: Cabinet) -> Cabinet {
-    let cabinet = handed(before);
+pub fn ask(
+    rt: &impl Print,
+    rows: &mut impl Read,
+    file: &[u8],
+    before: Cabinet,
+) -> io::Result<Cabinet> {
+    let cabinet = handed(rt, rows, before)?;
     match cabinet::next_action(file, cabinet) {
-        ActionAnswer::Action(action) => print_number(action as u64),
-        ActionAnswer::Ended => print_text(b" ended"),
-        ActionAnswer::Refused(number) => print_refused(number),
+        ActionAnswer::Action(action) => print_number(rt, u64::from(action))?,
+        ActionAnswer::Ended => print_text(rt, b" ended")?,
+        ActionAnswer::Refused(number) => print_refused(rt, number)?,
     }
-    cabinet
+    Ok(cabinet)
 }
 
 // Reports a result, which is read.
-pub fn report(file: &[u8], before: Cabinet) -> Cabinet {
-    let cabinet = handed(before);
-    match cabinet::report(file, cabinet, read_byte()) {
+pub fn report(
+    rt: &impl Print,
+    rows: &mut impl Read,
+    file: &[u8],
+    before: Cabinet,
+) -> io::Result<Cabinet> {
+    let cabinet = handed(rt, rows, before)?;
+    match cabinet::report(file, cabinet, read_byte(rows)?) {
         ReportAnswer::Taken(next) => {
-            print_state(next);
-            next
+            print_state(rt, next)?;
+            Ok(next)
         }
         ReportAnswer::Refused(number, kept) => {
-            print_refused(number);
-            print_text(b", state");
-            print_state(kept);
-            kept
+            print_refused(rt, number)?;
+            print_text(rt, b", state")?;
+            print_state(rt, kept)?;
+            Ok(kept)
         }
     }
 }

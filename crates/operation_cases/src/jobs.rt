@@ -4,50 +4,51 @@ use job_file::Reading;
 use job_layout::{Job, Part};
 use row_cases::printing::{print_number, print_refused, print_text};
 use row_cases::reading::read_byte;
+use std::io;
+use std::io::Read;
 
 // The offset and the length of a part.
-fn print_part(part: Part) {
-    print_number(part.offset as u64);
-    print_number(part.length as u64);
+fn print_part(rt: &impl Print, part: Part) -> io::Result<()> {
+    print_number(rt, u64::from(part.offset))?;
+    print_number(rt, u64::from(part.length))
 }
 
 // Bytes 0 to 6, and the offset and the length of each of the five parts.
-fn print_job(job: Job) {
-    print_number(job.actions as u64);
-    print_number(job.worlds as u64);
-    print_number(job.kinds as u64);
-    print_number(job.results as u64);
-    print_number(job.states as u64);
-    print_number(job.first.0 as u64);
-    print_number(job.ends as u64);
-    print_part(job.marks);
-    print_part(job.cells);
-    print_part(job.starts);
-    print_part(job.goal);
-    print_part(job.plan);
+fn print_job(rt: &impl Print, job: Job) -> io::Result<()> {
+    print_number(rt, u64::from(job.actions))?;
+    print_number(rt, u64::from(job.worlds))?;
+    print_number(rt, u64::from(job.kinds))?;
+    print_number(rt, u64::from(job.results))?;
+    print_number(rt, u64::from(job.states))?;
+    print_number(rt, u64::from(job.first.0))?;
+    print_number(rt, u64::from(job.ends))?;
+    print_part(rt, job.marks)?;
+    print_part(rt, job.cells)?;
+    print_part(rt, job.starts)?;
+    print_part(rt, job.goal)?;
+    print_part(rt, job.plan)
 }
 
 // Reads a file.
-pub fn read(file: &[u8]) {
+pub fn read(rt: &impl Print, file: &[u8]) -> io::Result<()> {
     match job_file::read_job(file) {
-        Reading::Job(job) => print_job(job),
-        Reading::Refused(number) => print_refused(number),
+        Reading::Job(job) => print_job(rt, job),
+        Reading::Refused(number) => print_refused(rt, number),
     }
 }
 
 // The bytes that bench_line's contracts say to be those of G, or of its variant with five states.
 fn has_bytes_of_theorem(states: u8, file: &[u8]) -> bool {
     if states == 5 {
-        return check::same(file, &five_states());
+        return file == five_states().as_slice();
     }
-    check::same(file, &bench())
+    file == bench().as_slice()
 }
 
 // Whether a file is the bench line of the theorem with this number of states.
-pub fn compare_bytes(file: &[u8]) {
-    if has_bytes_of_theorem(read_byte(), file) {
-        print_text(b" the same bytes");
-        return;
+pub fn compare_bytes(rt: &impl Print, rows: &mut impl Read, file: &[u8]) -> io::Result<()> {
+    if has_bytes_of_theorem(read_byte(rows)?, file) {
+        return print_text(rt, b" the same bytes");
     }
-    print_text(b" other bytes");
+    print_text(rt, b" other bytes")
 }

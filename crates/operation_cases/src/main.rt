@@ -16,47 +16,61 @@ use crate::sums::sum;
 use lamp_line::Cabinet;
 use row_cases::printing::print_text;
 use row_cases::reading::{print_field, read_byte, read_field};
+use std::io;
+use std::io::Read;
 
 // Calls the operation with this number, which reads its own arguments and prints its answer. The cabinet's calls are handed the state that the
 // call before has left, and answer the one that they leave; the other operations leave it as it is.
-fn call(operation: u8, file: &[u8], list: &[u8], cabinet: Cabinet) -> Cabinet {
+fn call(
+    rt: &impl Print,
+    rows: &mut impl Read,
+    operation: u8,
+    file: &[u8],
+    list: &[u8],
+    cabinet: Cabinet,
+) -> io::Result<Cabinet> {
     match operation {
-        1 => read(file),
-        2 => run(file, list),
-        3 => walk(file),
-        4 => replay(file, list),
-        5 => fill(file),
-        6 => sum(list),
-        7 => compare_bytes(file),
-        8 => return begin(file),
-        9 => return ask(file, cabinet),
-        _ => return report(file, cabinet),
+        1 => read(rt, file)?,
+        2 => run(rt, rows, file, list)?,
+        3 => walk(rt, rows, file)?,
+        4 => replay(rt, file, list)?,
+        5 => fill(rt, rows, file)?,
+        6 => sum(rt, rows, list)?,
+        7 => compare_bytes(rt, rows, file)?,
+        8 => return begin(rt, rows, file),
+        9 => return ask(rt, rows, file, cabinet),
+        _ => return report(rt, rows, file, cabinet),
     }
-    cabinet
+    Ok(cabinet)
 }
 
 // One row: a name, a file, a list of bytes, and what the operation reads itself. Answers the state of the cabinet.
-fn one_row(operation: u8, cabinet: Cabinet) -> Cabinet {
-    print_field();
-    let mut file = io::large_buffer();
-    let size = read_field(&mut file);
-    let mut list = io::large_buffer();
-    let count = read_field(&mut list);
-    let next = call(operation, &file[..size], &list[..count], cabinet);
-    print_text(b"\n");
-    next
+fn one_row(
+    rt: &impl Print,
+    rows: &mut impl Read,
+    operation: u8,
+    cabinet: Cabinet,
+) -> io::Result<Cabinet> {
+    print_field(rt, rows)?;
+    let mut file = [0u8; 65536];
+    let size = read_field(rows, &mut file)?;
+    let mut list = [0u8; 65536];
+    let count = read_field(rows, &mut list)?;
+    let next = call(rt, rows, operation, &file[..size], &list[..count], cabinet)?;
+    print_text(rt, b"\n")?;
+    Ok(next)
 }
 
 // The rows end with the operation 0, which comes after the last byte too. They are counted, since nothing says that an input ends.
-fn main() {
+fn main(rt: HostRuntime) -> io::Result<()> {
+    let mut rows = rt.stdin();
     let mut cabinet = state_of(0, 0);
-    let mut rows: u32 = 0;
-    while rows < 100000 {
-        let operation = read_byte();
+    for _ in 0..100000 {
+        let operation = read_byte(&mut rows)?;
         if operation == 0 {
-            return;
+            break;
         }
-        cabinet = one_row(operation, cabinet);
-        rows += 1;
+        cabinet = one_row(&rt, &mut rows, operation, cabinet)?;
     }
+    Ok(())
 }
