@@ -59,10 +59,7 @@ fn explain_use(rt: &impl Eprint) {
 // Whether the program was started with an argument, be it an empty one: the name by which it was started is argument 0.
 fn has_arguments(rt: &impl Env) -> bool {
     let mut argument = [0u8; 1];
-    match rt.arg(1, &mut argument) {
-        Err(FillError::NotPresent) => false,
-        _ => true,
-    }
+    !matches!(rt.arg(1, &mut argument), Err(FillError::NotPresent))
 }
 
 // The whole program.
