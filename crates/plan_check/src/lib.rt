@@ -79,8 +79,8 @@ fn check_lines(
     words: &mut [u64],
 ) -> Outcome
     ensures { CheckedLines file.now longest result
-        (record { line = line.entry.now; list = list.old; words = words.old })
-        (record { line = line.exit.now; list = list.new; words = words.new }) }
+        (record { line = line.old; list = list.old; words = words.old })
+        (record { line = line.new; list = list.new; words = words.new }) }
 {
     let reading = read_job(file);
     let Reading::Job(job) = reading else {
@@ -132,8 +132,8 @@ fn short_answer(longest: u16, outcome: Outcome) -> ShortAnswer
 // Checks the plan of any file on all lines.
 pub fn check_plan(file: &[u8], line: &mut [u8], list: &mut [u32], words: &mut [u64]) -> CheckAnswer
     ensures { Checked file.now result
-        (record { line = line.entry.now; list = list.old; words = words.old })
-        (record { line = line.exit.now; list = list.new; words = words.new }) }
+        (record { line = line.old; list = list.old; words = words.old })
+        (record { line = line.new; list = list.new; words = words.new }) }
 {
     full_answer(check_lines(file, NO_BOUND, line, list, words))
 }
@@ -147,8 +147,8 @@ pub fn check_up_to(
     words: &mut [u64],
 ) -> ShortAnswer
     ensures { CheckedUpTo file.now longest result
-        (record { line = line.entry.now; list = list.old; words = words.old })
-        (record { line = line.exit.now; list = list.new; words = words.new }) }
+        (record { line = line.old; list = list.old; words = words.old })
+        (record { line = line.new; list = list.new; words = words.new }) }
 {
     short_answer(
         longest,
