@@ -20,33 +20,33 @@ use Rattle.answer_line.proofs.Writing.{length_line}
 use Rattle.answer_line.proofs.PrintedRight.{zeros, zeros_large, accepted_printed, failed_printed, refused_printed, answer_in}
 use Rattle.answer_line.proofs.answer_line.Goals as goal
 
-abbrev lent_after : goal.?After-words2 → Lent
-lent_after c =
-    let last = c.check_plan-answer.new in
-    record { line = last.1.0; list = last.1.1.0; words = last.1.1.1.0 }
-
-checked : (c : goal.?After-words2) {r : CheckAnswer} → c.check_plan-answer.result ≡ r → Checked c.args.file.now r zeros (lent_after c)
-checked c e = subst (λ (r : CheckAnswer). Checked c.args.file.now r zeros (lent_after c)) e c.check_plan-answer.ensures
-
-
 pub failed_line-requires : goal.failed_line-requires
 failed_line-requires c =
-    let within = (failed_printed c.args.file.now zeros (lent_after c) zeros_large c.in-Failed.failure (checked c c.in-Failed.is)).1 in
+    let lent_after : Lent = record { line = c.check_plan-answer.new.line; list = c.check_plan-answer.new.list; words = c.check_plan-answer.new.words } in
+    let checked : (r : CheckAnswer) → c.check_plan-answer.result ≡ r → Checked c.args.file.now r zeros lent_after =
+        λ r e. subst (λ (r : CheckAnswer). Checked c.args.file.now r zeros lent_after) e c.check_plan-answer.ensures in
+    let within = (failed_printed c.args.file.now zeros lent_after zeros_large c.in-Failed.failure (checked _ c.in-Failed.is)).1 in
     let size = c.check_plan-answer.auto.line ∙ zeros_large.line_size in
     (within, omega (arith, size), search rules)
 
 pub returns-in-Accepted : goal.returns-in-Accepted
 returns-in-Accepted c =
+    let lent_after : Lent = record { line = c.check_plan-answer.new.line; list = c.check_plan-answer.new.list; words = c.check_plan-answer.new.words } in
+    let checked : (r : CheckAnswer) → c.check_plan-answer.result ≡ r → Checked c.args.file.now r zeros lent_after =
+        λ r e. subst (λ (r : CheckAnswer). Checked c.args.file.now r zeros lent_after) e c.check_plan-answer.ensures in
     let count = c.in-Accepted.count in
     let fits = length_line accepted_text (count ∷ []) in
     answer_in c.args.file.now _ c.args.out.now _ _ c.word_and_number.ensures (omega (arith, fits))
-    (accepted_printed c.args.file.now zeros (lent_after c) zeros_large count (checked c c.in-Accepted.is))
+    (accepted_printed c.args.file.now zeros lent_after zeros_large count (checked _ c.in-Accepted.is))
 
 pub returns-in-Failed : goal.returns-in-Failed
 returns-in-Failed c =
+    let lent_after : Lent = record { line = c.check_plan-answer.new.line; list = c.check_plan-answer.new.list; words = c.check_plan-answer.new.words } in
+    let checked : (r : CheckAnswer) → c.check_plan-answer.result ≡ r → Checked c.args.file.now r zeros lent_after =
+        λ r e. subst (λ (r : CheckAnswer). Checked c.args.file.now r zeros lent_after) e c.check_plan-answer.ensures in
     let failure = c.in-Failed.failure in
-    let line = (lent_after c).line in
-    let (printed, within) = failed_printed c.args.file.now zeros (lent_after c) zeros_large failure (checked c c.in-Failed.is) in
+    let line = lent_after.line in
+    let (printed, within) = failed_printed c.args.file.now zeros lent_after zeros_large failure (checked _ c.in-Failed.is) in
     let kinds = take failure.lamps line in
     let rest = kinds ++ (failure.end ∷ []) in
     let fits = length_line fails_text (kind_number failure.kind ∷ failure.start.0 ∷ length kinds ∷ rest) in
@@ -55,9 +55,12 @@ returns-in-Failed c =
 
 pub returns-in-Refused : goal.returns-in-Refused
 returns-in-Refused c =
+    let lent_after : Lent = record { line = c.check_plan-answer.new.line; list = c.check_plan-answer.new.list; words = c.check_plan-answer.new.words } in
+    let checked : (r : CheckAnswer) → c.check_plan-answer.result ≡ r → Checked c.args.file.now r zeros lent_after =
+        λ r e. subst (λ (r : CheckAnswer). Checked c.args.file.now r zeros lent_after) e c.check_plan-answer.ensures in
     let number = c.in-Refused.number in
     let out = c.args.out.now in
     let fits = length_line refused_text (number ∷ []) in
     let wrote = subst (λ n. Wrote out 0 (refused_line n) c.word_and_number-in-Refused.result c.word_and_number-in-Refused.new.out) c.wide.ensures c.word_and_number-in-Refused.ensures in
     answer_in c.args.file.now (refused_line number) out _ _ wrote (omega (arith, fits))
-    (refused_printed c.args.file.now zeros (lent_after c) zeros_large number (checked c c.in-Refused.is))
+    (refused_printed c.args.file.now zeros lent_after zeros_large number (checked _ c.in-Refused.is))

@@ -18,10 +18,10 @@ returns c =
     let a = c.args in
     let kinds = a.kinds.now in
     let rest = kinds ++ (a.end ∷ []) in
-    let end = wrote_last kinds a.end _ c.wide-3.ensures c.put_bytes-after_kinds.ensures.0 c.put_number-after_end.ensures.0 in
-    let count = wrote_number (length kinds) _ rest refl c.put_number-after_count.ensures.0 end in
-    let first = wrote_number a.start.0 _ (length kinds ∷ rest) c.wide-2.ensures c.put_number-after_start.ensures.0 count in
+    let end = wrote_last kinds a.end _ c.wide-3.ensures c.put_bytes-after_kinds.ensures.wrote c.put_number-after_end.ensures.wrote in
+    let count = wrote_number (length kinds) _ rest refl c.put_number-after_count.ensures.wrote end in
+    let first = wrote_number a.start.0 _ (length kinds ∷ rest) c.wide-2.ensures c.put_number-after_start.ensures.wrote count in
     let kind =
     wrote_number (kind_number a.kind) _ (a.start.0 ∷ length kinds ∷ rest)
-    (c.wide.ensures ∙ c.failure_number.ensures) c.put_number-after_kind.ensures.0 first in
+    (c.wide.ensures ∙ c.failure_number.ensures) c.put_number-after_kind.ensures.wrote first in
     wrote_then c.put_word-after_word.ensures (wrote_then kind c.put_byte.ensures)

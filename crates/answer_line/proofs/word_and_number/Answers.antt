@@ -11,4 +11,4 @@ use Rattle.answer_line.proofs.word_and_number.Goals as goal
 
 pub returns : goal.returns
 returns c =
-    wrote_then c.put_word-after_word.ensures (wrote_then c.put_number-after_number.ensures.0 c.put_byte.ensures)
+    wrote_then c.put_word-after_word.ensures (wrote_then c.put_number-after_number.ensures.wrote c.put_byte.ensures)
