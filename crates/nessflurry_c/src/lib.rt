@@ -108,8 +108,8 @@ pub extern "C" fn nessflurry_raw_check(
     words: &mut [u64],
 ) -> u64
     ensures { CheckedWord file.now result
-        (record { line = line.entry.now; list = list.old; words = words.old })
-        (record { line = line.exit.now; list = list.new; words = words.new }) }
+        (record { line = line.old; list = list.old; words = words.old })
+        (record { line = line.new; list = list.new; words = words.new }) }
 {
     check_word(check_plan(file, line, list, words))
 }
@@ -123,8 +123,8 @@ pub extern "C" fn nessflurry_raw_check_up_to(
     words: &mut [u64],
 ) -> u64
     ensures { CheckedUpToWord file.now longest result
-        (record { line = line.entry.now; list = list.old; words = words.old })
-        (record { line = line.exit.now; list = list.new; words = words.new }) }
+        (record { line = line.old; list = list.old; words = words.old })
+        (record { line = line.new; list = list.new; words = words.new }) }
 {
     short_word(check_up_to(file, longest, line, list, words))
 }
