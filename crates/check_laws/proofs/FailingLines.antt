@@ -16,7 +16,7 @@ use Rattle.run_laws.specs.inner.Pairs.{InRange, pair_number}
 use Rattle.run_laws.proofs.Walks.{arrived_in_range, arrived_at_lamp}
 use Rattle.run_laws.proofs.Runs.{run_after, along_ends, along_passes}
 use Rattle.search_laws.specs.inner.Graph.{FailsAlong, bad_end, bad_lamp, goes_on, FailsFrom}
-use Rattle.check_laws.specs.inner.Fates.{fails, fate_of}
+use Rattle.check_laws.specs.inner.Fates.{fate_of}
 use Rattle.check_laws.proofs.FateLaws.{kind_number_injective, fate_of_pair, fails_walk, arrives_walk}
 use Rattle.check_laws.proofs.TableGraph.{graph, start_in_range}
 use Rattle.check_laws.proofs.RunLeads.{leads_run, run_leads}

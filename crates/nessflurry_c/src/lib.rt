@@ -69,8 +69,8 @@ fn head_numbers(job: Job) -> [u16; 17]
 
 #[unsafe(no_mangle)]
 pub extern "C" fn nessflurry_raw_read(file: &[u8], head: &mut [u16; 17]) -> u64
-    ensures value { result ≡ read_word (reading_of file.now) }
-    ensures head_after { head.new ≡ head_after (reading_of file.now) head.old }
+    ensures answer { result ≡ read_word (reading_of file.now) }
+    ensures written { head.new ≡ head_after (reading_of file.now) head.old }
 {
     let reading = read_job(file);
     let Reading::Job(job) = reading else {
@@ -180,9 +180,9 @@ pub extern "C" fn nessflurry_raw_fill_cells(
     end_kinds: u8,
     part: &mut [u8],
 ) -> u64
-    ensures value { result ≡ fill_word (fill_answer rules.now
+    ensures answer { result ≡ fill_word (fill_answer rules.now
         (record { actions = actions; worlds = worlds; kinds = kinds; results = results; end_kinds = end_kinds }) (length part.old)) }
-    ensures part_after { part.new ≡ part_after (fill_answer rules.now
+    ensures written { part.new ≡ part_after (fill_answer rules.now
         (record { actions = actions; worlds = worlds; kinds = kinds; results = results; end_kinds = end_kinds }) (length part.old))
         rules.now (record { actions = actions; worlds = worlds; kinds = kinds; results = results; end_kinds = end_kinds })
         part.old }

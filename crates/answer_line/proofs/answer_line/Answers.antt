@@ -1,13 +1,10 @@
-use Rattle.std.proofs.Common.{rules, [], ◌∷◌, ◌++◌, ◌+◌, ◌≤◌, length, ◌≡◌, ℕ, ◌-◌, ◌*◌, ◌<◌, ◌/◌, ◌%◌, Bool, true, false, nat_eq, nat_lt, List, slice_index_or, slice_set, bit_and, bit_or, Fits, w8, w32, w64, Bor, MutBor}
+use Rattle.std.proofs.Common.{rules, [], ◌∷◌, ◌++◌, length, ◌≡◌}
 use Rattle.lamp_line.specs.Endings.{kind_number}
-use Rattle.lamp_line.specs.Check.{failed}
-use Rattle.plan_check.specs.CheckAnswers.{failed_line}
-use Rattle.answer_line.specs.AnswerLine.{fails_text, text_line, verdict_line, AnswerIn}
+use Rattle.answer_line.specs.AnswerLine.{fails_text}
 use Rattle.answer_line.specs.inner.Writing.{Wrote}
 use borrow.Author.Rules.{rules}
 use mathlib.Core.Path.{◌≡◌, subst, ◌∙◌}
-use mathlib.Core.List.{List, [], ◌∷◌, ◌++◌}
-use Prim.Native.Nat.{ℕ}
+use mathlib.Core.List.{[], ◌∷◌, ◌++◌}
 use native.Mathlib.Omega.{arith}
 use lib.ListN.{length, take, length-append}
 use lib.Seq.{length-take-le}
@@ -24,7 +21,7 @@ pub failed_line-requires : goal.failed_line-requires
 failed_line-requires c =
     let lent_after : Lent = record { line = c.check_plan-answer.new.line; list = c.check_plan-answer.new.list; words = c.check_plan-answer.new.words } in
     let checked : (r : CheckAnswer) → c.check_plan-answer.result ≡ r → Checked c.args.file.now r zeros lent_after =
-        λ r e. subst (λ (r : CheckAnswer). Checked c.args.file.now r zeros lent_after) e c.check_plan-answer.ensures in
+    λ r e. subst (λ (r : CheckAnswer). Checked c.args.file.now r zeros lent_after) e c.check_plan-answer.ensures in
     let within = (failed_printed c.args.file.now zeros lent_after zeros_large c.in-Failed.failure (checked _ c.in-Failed.is)).1 in
     let size = c.check_plan-answer.auto.line ∙ zeros_large.line_size in
     (within, omega (arith, size), search rules)
@@ -33,7 +30,7 @@ pub returns-in-Accepted : goal.returns-in-Accepted
 returns-in-Accepted c =
     let lent_after : Lent = record { line = c.check_plan-answer.new.line; list = c.check_plan-answer.new.list; words = c.check_plan-answer.new.words } in
     let checked : (r : CheckAnswer) → c.check_plan-answer.result ≡ r → Checked c.args.file.now r zeros lent_after =
-        λ r e. subst (λ (r : CheckAnswer). Checked c.args.file.now r zeros lent_after) e c.check_plan-answer.ensures in
+    λ r e. subst (λ (r : CheckAnswer). Checked c.args.file.now r zeros lent_after) e c.check_plan-answer.ensures in
     let count = c.in-Accepted.count in
     let fits = length_line accepted_text (count ∷ []) in
     answer_in c.args.file.now _ c.args.out.now _ _ c.word_and_number.ensures (omega (arith, fits))
@@ -43,7 +40,7 @@ pub returns-in-Failed : goal.returns-in-Failed
 returns-in-Failed c =
     let lent_after : Lent = record { line = c.check_plan-answer.new.line; list = c.check_plan-answer.new.list; words = c.check_plan-answer.new.words } in
     let checked : (r : CheckAnswer) → c.check_plan-answer.result ≡ r → Checked c.args.file.now r zeros lent_after =
-        λ r e. subst (λ (r : CheckAnswer). Checked c.args.file.now r zeros lent_after) e c.check_plan-answer.ensures in
+    λ r e. subst (λ (r : CheckAnswer). Checked c.args.file.now r zeros lent_after) e c.check_plan-answer.ensures in
     let failure = c.in-Failed.failure in
     let line = lent_after.line in
     let (printed, within) = failed_printed c.args.file.now zeros lent_after zeros_large failure (checked _ c.in-Failed.is) in
@@ -57,7 +54,7 @@ pub returns-in-Refused : goal.returns-in-Refused
 returns-in-Refused c =
     let lent_after : Lent = record { line = c.check_plan-answer.new.line; list = c.check_plan-answer.new.list; words = c.check_plan-answer.new.words } in
     let checked : (r : CheckAnswer) → c.check_plan-answer.result ≡ r → Checked c.args.file.now r zeros lent_after =
-        λ r e. subst (λ (r : CheckAnswer). Checked c.args.file.now r zeros lent_after) e c.check_plan-answer.ensures in
+    λ r e. subst (λ (r : CheckAnswer). Checked c.args.file.now r zeros lent_after) e c.check_plan-answer.ensures in
     let number = c.in-Refused.number in
     let out = c.args.out.now in
     let fits = length_line refused_text (number ∷ []) in

@@ -1,13 +1,6 @@
-use Rattle.std.proofs.Common.{rules, ◌≡◌, ◌+◌, ◌≤◌, length, ℕ, ◌-◌, ◌*◌, ◌<◌, ◌/◌, ◌%◌, Bool, true, false, nat_eq, nat_lt, List, [], ◌∷◌, ◌++◌, slice_index_or, slice_set, bit_and, bit_or, Fits, w8, w32, w64, Bor, MutBor}
-use Rattle.lamp_line.specs.Refusals.{some_below}
-use Rattle.job_layout.specs.inner.Laid.{Laid}
-use Rattle.job_layout.specs.FileRefusals.{not_bit, mark_wrong, goal_wrong, is_set, start_wrong}
-use borrow.Author.Rules.{rules}
 use borrow.Author.Tests.{eq-eqb, ne_eqb}
 use native.Mathlib.Omega.{arith}
-use Prim.Native.Nat.{◌-◌}
-use Rattle.lamp_line.proofs.Scan.{NoneYet, none_yet_start, none_yet_more, scan_finds, scan_ends}
-use Rattle.job_layout.specs.FileRefusals.{is_set}
+use Rattle.lamp_line.proofs.Scan.{none_yet_start, none_yet_more, scan_finds}
 use Rattle.bit_refusals.proofs.any_set.Goals as goal
 
 pub loop-i-init : goal.loop-i-init

@@ -1,9 +1,3 @@
-use Rattle.std.proofs.Common.{rules, ◌≡◌, ◌<◌, ℕ, ◌+◌, ◌-◌, ◌*◌, ◌≤◌, length, ◌/◌, ◌%◌, Bool, true, false, nat_eq, nat_lt, List, [], ◌∷◌, ◌++◌, slice_index_or, slice_set, bit_and, bit_or, Fits, w8, w32, w64, Bor, MutBor}
-use Rattle.job_layout.specs.JobTables.{tables_of}
-use Rattle.job_file.specs.Reading.{Opened}
-use Rattle.job_tables.specs.inner.Entries.{target_of}
-use Rattle.cabinet.specs.CabinetAnswers.{begin_answer, action_answer, report_answer}
-use borrow.Author.Rules.{rules}
 use mathlib.Core.Path.{sym, ap, ◌∙◌}
 use Rattle.lamp_line.specs.declared.ProgramState.{ProgramState}
 use Rattle.job_file.proofs.Opening.{reading_refused}

@@ -1,27 +1,17 @@
-use Rattle.std.proofs.Common.{rules, ◌≡◌, ◌<◌, ℕ, ◌+◌, ◌-◌, ◌*◌, ◌≤◌, length, ◌/◌, ◌%◌, Bool, true, false, nat_eq, nat_lt, List, [], ◌∷◌, ◌++◌, slice_index_or, slice_set, bit_and, bit_or, Fits, w8, w32, w64, Bor, MutBor}
+use Rattle.std.proofs.Common.{◌≡◌, ◌<◌}
 use Rattle.job_layout.specs.JobTables.{tables_of}
 use Rattle.job_file.specs.Reading.{Opened}
 use Rattle.job_tables.specs.inner.Entries.{target_of}
-use Rattle.cabinet.specs.CabinetAnswers.{begin_answer, action_answer, report_answer}
-use borrow.Author.Rules.{rules}
 use mathlib.Core.Path.{◌≡◌, sym, ap, ◌∙◌}
-use mathlib.Core.Bool.{Bool}
 use mathlib.Core.Option.{some}
-use mathlib.Core.List.{List}
-use Prim.Native.Nat.{ℕ, ◌<◌}
+use Prim.Native.Nat.{◌<◌}
 use native.Mathlib.Omega.{arith}
-use borrow.Author.Tests.{not-true, not-false}
-use Rattle.plans.specs.Plan.{Result}
-use Rattle.lamp_line.specs.declared.ProgramState.{ProgramState}
-use Rattle.lamp_line.specs.declared.Cabinet.{Cabinet}
 use Rattle.lamp_line.specs.Tables.{moves_on}
-use Rattle.job_layout.specs.declared.Job.{Job}
 use Rattle.job_layout.specs.JobTables.{tables_of}
 use Rattle.job_file.specs.Reading.{Opened}
 use Rattle.job_file.proofs.Opening.{reading_refused}
 use Rattle.job_tables.specs.inner.Entries.{target_of}
 use Rattle.job_tables.proofs.Ranges.{states_are, action_below}
-use Rattle.cabinet.specs.CabinetAnswers.{is_moving}
 use Rattle.cabinet.proofs.Answering.{report_file_refused, report_above, report_ended, report_no_branch, report_stays, report_no_lamp, report_passes}
 use Rattle.cabinet.proofs.report.Goals as goal
 

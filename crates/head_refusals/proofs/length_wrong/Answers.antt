@@ -1,8 +1,5 @@
-use Rattle.std.proofs.Common.{rules, ◌≡◌, ◌≤◌, length, ℕ, ◌+◌, ◌-◌, ◌*◌, ◌<◌, ◌/◌, ◌%◌, Bool, true, false, nat_eq, nat_lt, List, [], ◌∷◌, ◌++◌, slice_index_or, slice_set, bit_and, bit_or, Fits, w8, w32, w64, Bor, MutBor}
-use Rattle.job_layout.specs.FileRefusals.{outside, ranges_wrong, number_wrong, end_of, misplaced, place_wrong, differs, length_wrong}
-use borrow.Author.Rules.{rules}
 use Rattle.job_layout.specs.FileRefusals.{length_wrong}
-use borrow.Author.Rules.{rules}
+use Rattle.job_layout.specs.FileRefusals.{length_wrong}
 use Rattle.job_layout.specs.FileRefusals.{length_wrong}
 use Rattle.head_refusals.proofs.length_wrong.Goals as goal
 

@@ -1,11 +1,5 @@
-use Rattle.std.proofs.Common.{rules, ◌≡◌, ℕ, ◌+◌, ◌-◌, ◌*◌, ◌<◌, ◌≤◌, length, ◌/◌, ◌%◌, Bool, true, false, nat_eq, nat_lt, List, [], ◌∷◌, ◌++◌, slice_index_or, slice_set, bit_and, bit_or, Fits, w8, w32, w64, Bor, MutBor}
-use Rattle.job_layout.specs.inner.Laid.{Laid}
-use Rattle.job_file.specs.Reading.{reading_of}
-use Rattle.job_file.specs.inner.ReaderSteps.{reading_from, refusal_of}
-use borrow.Author.Rules.{rules}
 use mathlib.Core.Path.{sym, ◌∙◌}
-use borrow.Author.Tests.{ltb-false}
-use Rattle.head_refusals.proofs.HeadLaws.{neither, laid}
+use Rattle.head_refusals.proofs.HeadLaws.{laid}
 use Rattle.job_file.proofs.ReadingLaws.{size_refused, number_refused, place_refused, length_refused, head_read}
 use Rattle.job_file.proofs.read_job.Goals as goal
 

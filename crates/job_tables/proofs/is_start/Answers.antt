@@ -1,10 +1,3 @@
-use Rattle.std.proofs.Common.{rules, ◌≡◌, ◌<◌, ℕ, ◌+◌, ◌-◌, ◌*◌, ◌≤◌, length, ◌/◌, ◌%◌, Bool, true, false, nat_eq, nat_lt, List, [], ◌∷◌, ◌++◌, slice_index_or, slice_set, bit_and, bit_or, Fits, w8, w32, w64, Bor, MutBor}
-use Rattle.lamp_line.specs.Tables.{moves_on}
-use Rattle.job_layout.specs.Layout.{job_columns}
-use Rattle.job_layout.specs.JobTables.{tables_of}
-use Rattle.job_file.specs.Reading.{Opened}
-use Rattle.job_tables.specs.inner.Entries.{BytesOf, outcomes_of, target_of}
-use borrow.Author.Rules.{rules}
 use Rattle.job_layout.proofs.Bounds.{start_in}
 use Rattle.job_tables.proofs.Lookups.{start_is, no_start}
 use Rattle.job_tables.proofs.Ranges.{laid_out}

@@ -1,16 +1,8 @@
-use Rattle.std.proofs.Common.{rules, ◌≡◌, true, ◌≤◌, ℕ, ◌+◌, ◌-◌, ◌*◌, ◌<◌, length, ◌/◌, ◌%◌, Bool, false, nat_eq, nat_lt, List, [], ◌∷◌, ◌++◌, slice_index_or, slice_set, bit_and, bit_or, w8, w32, w64, Bor, MutBor}
-use Rattle.lamp_line.specs.Tables.{line_of, column_of, Kinds, Fits}
-use Rattle.job_layout.specs.Layout.{job_columns}
-use Rattle.lamp_line.specs.Run.{ran, run, limited}
-use Rattle.job_layout.specs.JobTables.{tables_by, tables_of}
-use Rattle.job_file.specs.Reading.{Opened}
-use Rattle.line_run.specs.RunAnswers.{run_answer_of, run_answer}
+use Rattle.std.proofs.Common.{rules}
 use borrow.Author.Rules.{rules}
 use native.Mathlib.Omega.{arith}
-use lib.ListN.{length}
-use Rattle.lamp_line.specs.Run.{pair}
 use Rattle.job_tables.proofs.Ranges.{columns_few}
-use Rattle.line_run.proofs.RunLoop.{Running, running_kinds, running_column_in, running_start, running_ends, running_at_lamp, running_passes, running_stopped, rest_shorter}
+use Rattle.line_run.proofs.RunLoop.{running_kinds, running_column_in, running_start, running_ends, running_at_lamp, running_passes, running_stopped, rest_shorter}
 use Rattle.line_run.proofs.run_in_job.Goals as goal
 
 pub loop-ending-init : goal.loop-ending-init

@@ -1,11 +1,3 @@
-use Rattle.std.proofs.Common.{rules, ◌≡◌, true, ◌≤◌, ℕ, ◌+◌, ◌-◌, ◌*◌, ◌<◌, length, ◌/◌, ◌%◌, Bool, false, nat_eq, nat_lt, List, [], ◌∷◌, ◌++◌, slice_index_or, slice_set, bit_and, bit_or, w8, w32, w64, Bor, MutBor}
-use Rattle.lamp_line.specs.Tables.{line_of, column_of, Kinds, Fits}
-use Rattle.job_layout.specs.Layout.{job_columns}
-use Rattle.lamp_line.specs.Run.{ran, run, limited}
-use Rattle.job_layout.specs.JobTables.{tables_by, tables_of}
-use Rattle.job_file.specs.Reading.{Opened}
-use Rattle.line_run.specs.RunAnswers.{run_answer_of, run_answer}
-use borrow.Author.Rules.{rules}
 use Rattle.job_file.proofs.Opening.{opened_by}
 use Rattle.line_refusals.proofs.LineLaws.{start_is_marked, line_is_right}
 use Rattle.line_run.proofs.RunRefusals.{run_file_refused, run_start_refused, run_line_refused, run_answered}

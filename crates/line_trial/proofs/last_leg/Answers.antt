@@ -1,12 +1,3 @@
-use Rattle.std.proofs.Common.{rules, ◌≡◌, ◌&&◌, ◌*◌, ◌≤◌, ◌<◌, eqb, length, ℕ, ◌+◌, ◌-◌, ◌/◌, ◌%◌, Bool, true, false, nat_lt, List, [], ◌∷◌, ◌++◌, slice_index_or, slice_set, bit_and, bit_or, Fits, w8, w32, w64, Bor, MutBor}
-use Rattle.job_layout.specs.JobTables.{tables_by}
-use Rattle.job_file.specs.Reading.{Opened}
-use Rattle.lamp_fates.specs.inner.Memory.{Memory}
-use Rattle.pair_bits.specs.Sum.{bit_at}
-use Rattle.working_list.specs.inner.Listing.{table, Listed}
-use Rattle.line_trial.specs.inner.Trials.{Ready, HasMember, Begins, TriedBelow, TriesEnd, TriesLine}
-use Rattle.line_trial.specs.inner.Turning.{Turned}
-use borrow.Author.Rules.{rules}
 use mathlib.Core.Path.{sym, ap, ◌∙◌}
 use native.Mathlib.Omega.{arith}
 use Rattle.lamp_line.specs.Tables.{Tables, world_state}

@@ -1,18 +1,7 @@
-use Rattle.std.proofs.Common.{rules, ◌≡◌, ◌&&◌, ◌*◌, ◌≤◌, ◌<◌, eqb, length, ℕ, ◌+◌, ◌-◌, ◌/◌, ◌%◌, Bool, true, false, nat_lt, List, [], ◌∷◌, ◌++◌, slice_index_or, slice_set, bit_and, bit_or, Fits, w8, w32, w64, Bor, MutBor}
-use Rattle.job_layout.specs.JobTables.{tables_by}
-use Rattle.job_file.specs.Reading.{Opened}
-use Rattle.lamp_fates.specs.inner.Memory.{Memory}
-use Rattle.pair_bits.specs.Sum.{bit_at}
-use Rattle.working_list.specs.inner.Listing.{table, Listed}
-use Rattle.line_trial.specs.inner.Trials.{Ready, HasMember, Begins, TriedBelow, TriesEnd, TriesLine}
-use Rattle.line_trial.specs.inner.Turning.{Turned}
-use borrow.Author.Rules.{rules}
-use mathlib.Core.Path.{◌≡◌, refl, ◌∙◌}
+use mathlib.Core.Path.{◌∙◌}
 use native.Mathlib.Omega.{arith}
-use lib.ListN.{length}
-use Rattle.line_trial.proofs.LastLeg.{begins_nowhere, begins_from}
-use Rattle.line_trial.proofs.TryingEnds.{Trying, bit_in_words}
-use Rattle.line_trial.proofs.TryingEnds.{tries_met, tries_failing, tries_ending, tries_succeeding, passes_lamp, tries_on}
+use Rattle.line_trial.proofs.TryingEnds.{bit_in_words}
+use Rattle.line_trial.proofs.TryingEnds.{tries_met, tries_failing, tries_ending, tries_succeeding, tries_on}
 use Rattle.line_trial.proofs.try_end.Goals as goal
 
 pub is_met-requires : goal.is_met-requires

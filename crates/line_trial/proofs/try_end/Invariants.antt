@@ -1,25 +1,10 @@
-use Rattle.std.proofs.Common.{◌≡◌, ◌&&◌, ◌*◌, ◌≤◌, ◌<◌, eqb, length, ℕ, ◌+◌, ◌-◌}
-use Rattle.job_layout.specs.JobTables.{tables_by}
-use Rattle.job_file.specs.Reading.{Opened}
-use Rattle.lamp_fates.specs.inner.Memory.{Memory}
-use Rattle.pair_bits.specs.Sum.{bit_at}
-use Rattle.working_list.specs.inner.Listing.{table, Listed}
-use Rattle.line_trial.specs.inner.Trials.{Ready, HasMember, Begins, TriedBelow, TriesEnd, TriesLine}
-use Rattle.line_trial.specs.inner.Turning.{Turned}
-use borrow.Author.Rules.{rules}
-use mathlib.Core.Path.{◌≡◌, refl, ◌∙◌}
-use native.Mathlib.Omega.{arith}
+use Rattle.std.proofs.Common.{◌≡◌, length}
+use mathlib.Core.Path.{◌≡◌}
 use lib.ListN.{length}
-use Rattle.line_trial.proofs.LastLeg.{begins_nowhere, begins_from}
-use Rattle.line_trial.proofs.TryingEnds.{Trying, bit_in_words}
-use Rattle.line_trial.proofs.TryingEnds.{tries_met, tries_failing, tries_ending, tries_succeeding, passes_lamp, tries_on}
-use borrow.Author.Rules.{rules}
-use mathlib.Core.Path.{◌≡◌, refl, ◌∙◌}
-use native.Mathlib.Omega.{arith}
+use Rattle.line_trial.proofs.TryingEnds.{Trying}
+use mathlib.Core.Path.{◌≡◌}
 use lib.ListN.{length}
-use Rattle.line_trial.proofs.LastLeg.{begins_nowhere, begins_from}
-use Rattle.line_trial.proofs.TryingEnds.{Trying, bit_in_words}
-use Rattle.line_trial.proofs.TryingEnds.{tries_met, tries_failing, tries_ending, tries_succeeding, passes_lamp, tries_on}
+use Rattle.line_trial.proofs.TryingEnds.{Trying}
 use Rattle.line_trial.proofs.try_end.Given as goal
 
 abbrev pub invariant-loop-job : goal.invariant-loop-job

@@ -1,29 +1,19 @@
-use Rattle.std.proofs.Common.{◌≡◌, ◌&&◌, ◌*◌, ◌≤◌, ◌<◌, eqb, length, ℕ, ◌+◌, ◌-◌}
+use Rattle.std.proofs.Common.{◌≡◌, ◌≤◌, length, ◌-◌}
 use Rattle.job_layout.specs.JobTables.{tables_by}
-use Rattle.job_file.specs.Reading.{Opened}
-use Rattle.lamp_fates.specs.inner.Memory.{Memory}
-use Rattle.pair_bits.specs.Sum.{bit_at}
-use Rattle.working_list.specs.inner.Listing.{table, Listed}
-use Rattle.line_trial.specs.inner.Trials.{Ready, HasMember, Begins, TriedBelow, TriesEnd, TriesLine}
-use Rattle.line_trial.specs.inner.Turning.{Turned}
-use borrow.Author.Rules.{rules}
-use mathlib.Core.Path.{◌≡◌, refl, ◌∙◌}
+use Rattle.working_list.specs.inner.Listing.{table}
+use Rattle.line_trial.specs.inner.Trials.{Ready, TriedBelow}
+use mathlib.Core.Path.{◌≡◌}
 use Prim.Native.Nat.{◌-◌, ◌≤◌}
-use native.Mathlib.Omega.{arith}
 use lib.ListN.{length}
 use Rattle.job_layout.specs.JobTables.{tables_by}
 use Rattle.working_list.specs.inner.Listing.{table}
 use Rattle.line_trial.specs.inner.Trials.{Ready, TriedBelow}
-use Rattle.line_trial.proofs.LineTried.{none_below, end_decides, next_end, all_ends_tried}
-use borrow.Author.Rules.{rules}
-use mathlib.Core.Path.{◌≡◌, refl, ◌∙◌}
+use mathlib.Core.Path.{◌≡◌}
 use Prim.Native.Nat.{◌-◌, ◌≤◌}
-use native.Mathlib.Omega.{arith}
 use lib.ListN.{length}
 use Rattle.job_layout.specs.JobTables.{tables_by}
 use Rattle.working_list.specs.inner.Listing.{table}
 use Rattle.line_trial.specs.inner.Trials.{Ready, TriedBelow}
-use Rattle.line_trial.proofs.LineTried.{none_below, end_decides, next_end, all_ends_tried}
 use Rattle.line_trial.proofs.try_line.Given as goal
 
 abbrev pub invariant-loop-state : goal.invariant-loop-state

@@ -1,17 +1,7 @@
-use Rattle.std.proofs.Common.{rules, ◌≡◌, ◌&&◌, ◌*◌, ◌≤◌, ◌<◌, eqb, length, ℕ, ◌+◌, ◌-◌, ◌/◌, ◌%◌, Bool, true, false, nat_lt, List, [], ◌∷◌, ◌++◌, slice_index_or, slice_set, bit_and, bit_or, Fits, w8, w32, w64, Bor, MutBor}
 use Rattle.job_layout.specs.JobTables.{tables_by}
-use Rattle.job_file.specs.Reading.{Opened}
-use Rattle.lamp_fates.specs.inner.Memory.{Memory}
-use Rattle.pair_bits.specs.Sum.{bit_at}
-use Rattle.working_list.specs.inner.Listing.{table, Listed}
-use Rattle.line_trial.specs.inner.Trials.{Ready, HasMember, Begins, TriedBelow, TriesEnd, TriesLine}
-use Rattle.line_trial.specs.inner.Turning.{Turned}
-use borrow.Author.Rules.{rules}
-use mathlib.Core.Path.{refl}
 use native.Mathlib.Omega.{arith}
 use Rattle.job_layout.specs.JobTables.{tables_by}
-use Rattle.line_trial.proofs.NewPairs.{NewPair, new_pair, few_pairs, list_has_room, bit_has_room, packable, nothing_new, pair_placed, pair_passed}
-use Rattle.line_trial.proofs.LineTried.{tries_fails, tries_nothing}
+use Rattle.line_trial.proofs.NewPairs.{NewPair, new_pair, few_pairs, list_has_room, bit_has_room, packable, pair_placed, pair_passed}
 use Rattle.line_trial.proofs.try_member.Goals as goal
 
 pub set_bit-requires : goal.set_bit-requires
@@ -41,8 +31,7 @@ overflow_add-result c =
 
 pub returns-then-clean : goal.returns-then-clean
 returns-then-clean c =
-    let new : let a = c.args in NewPair (tables_by a.file.now a.job) a.list.now a.words.now a.count a.member a.kind c.in-New.state c.in-New.world = new_pair c.requires c.try_line-tried.ensures c.in-New.is in
-    (
+    let new : let a = c.args in NewPair (tables_by a.file.now a.job) a.list.now a.words.now a.count a.member a.kind c.in-New.state c.in-New.world = new_pair c.requires c.try_line-tried.ensures c.in-New.is in (
       pair_placed new _ c.if-clean.true c.pack.ensures c.pair_number.ensures
           c.set_bit.ensures,
       c.try_line-tried.ensures.remembers,

@@ -1,21 +1,12 @@
-use Rattle.std.proofs.Common.{◌≤◌, ◌<◌, length, ◌≡◌, ℕ, ◌+◌, ◌-◌, ◌*◌}
-use Rattle.job_layout.specs.Layout.{job_columns}
+use Rattle.std.proofs.Common.{◌≤◌, ◌-◌}
 use Rattle.job_layout.specs.JobTables.{tables_of}
-use Rattle.job_file.specs.Reading.{Opened}
-use Rattle.log_laws.specs.inner.Candidates.{FirstCandidates, NextCandidates}
-use Rattle.log_candidates.specs.inner.WorldSets.{label_of, EntryInJob, InWorlds, WorldsIn, Holds, Filled, Adds, Gathered, StartAt, Led, LedFrom, LedAt, Stayed, HoldJust, NoneLeft}
-use borrow.Author.Rules.{rules}
+use Rattle.log_candidates.specs.inner.WorldSets.{label_of, Adds, Gathered, LedAt}
 use Prim.Native.Nat.{◌-◌, ◌≤◌}
 use Rattle.job_layout.specs.JobTables.{tables_of}
 use Rattle.log_candidates.specs.inner.WorldSets.{label_of, Adds, Gathered, LedAt}
-use Rattle.log_candidates.proofs.Holding.{column_count_few, worlds_at}
-use Rattle.log_candidates.proofs.WorldSets.{gathered_none, gathered_more, gathered_all}
-use borrow.Author.Rules.{rules}
 use Prim.Native.Nat.{◌-◌, ◌≤◌}
 use Rattle.job_layout.specs.JobTables.{tables_of}
 use Rattle.log_candidates.specs.inner.WorldSets.{label_of, Adds, Gathered, LedAt}
-use Rattle.log_candidates.proofs.Holding.{column_count_few, worlds_at}
-use Rattle.log_candidates.proofs.WorldSets.{gathered_none, gathered_more, gathered_all}
 use Rattle.log_candidates.proofs.pass.Given as goal
 
 abbrev pub invariant-loop-c : goal.invariant-loop-c

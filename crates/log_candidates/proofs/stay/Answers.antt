@@ -1,17 +1,7 @@
-use Rattle.std.proofs.Common.{rules, ◌≤◌, ◌<◌, length, ◌≡◌, ℕ, ◌+◌, ◌-◌, ◌*◌, ◌/◌, ◌%◌, Bool, true, false, nat_eq, nat_lt, List, [], ◌∷◌, ◌++◌, slice_index_or, slice_set, bit_and, bit_or, Fits, w8, w32, w64, Bor, MutBor}
-use Rattle.job_layout.specs.Layout.{job_columns}
-use Rattle.job_layout.specs.JobTables.{tables_of}
-use Rattle.job_file.specs.Reading.{Opened}
-use Rattle.log_laws.specs.inner.Candidates.{FirstCandidates, NextCandidates}
-use Rattle.log_candidates.specs.inner.WorldSets.{label_of, EntryInJob, InWorlds, WorldsIn, Holds, Filled, Adds, Gathered, StartAt, Led, LedFrom, LedAt, Stayed, HoldJust, NoneLeft}
+use Rattle.std.proofs.Common.{rules}
 use borrow.Author.Rules.{rules}
-use Prim.Native.Nat.{◌-◌, ◌≤◌}
 use native.Mathlib.Omega.{arith}
-use mathlib.Core.Path.{◌≡◌}
-use lib.ListN.{length}
-use Rattle.job_layout.specs.JobTables.{tables_of}
-use Rattle.log_candidates.specs.inner.WorldSets.{label_of}
-use Rattle.log_candidates.proofs.Holding.{Staying, staying_none, staying_more, staying_all, staying_worlds, column_count_few}
+use Rattle.log_candidates.proofs.Holding.{staying_none, staying_more, column_count_few}
 use Rattle.log_candidates.proofs.stay.Goals as goal
 
 pub loop-c-init : goal.loop-c-init

@@ -1,25 +1,18 @@
-use Rattle.std.proofs.Common.{◌≤◌, ◌<◌, length, ◌≡◌, ℕ, ◌+◌, ◌-◌, ◌*◌}
-use Rattle.job_layout.specs.Layout.{job_columns}
+use Rattle.std.proofs.Common.{◌≤◌, length, ◌≡◌, ◌-◌}
 use Rattle.job_layout.specs.JobTables.{tables_of}
-use Rattle.job_file.specs.Reading.{Opened}
-use Rattle.log_laws.specs.inner.Candidates.{FirstCandidates, NextCandidates}
-use Rattle.log_candidates.specs.inner.WorldSets.{label_of, EntryInJob, InWorlds, WorldsIn, Holds, Filled, Adds, Gathered, StartAt, Led, LedFrom, LedAt, Stayed, HoldJust, NoneLeft}
-use borrow.Author.Rules.{rules}
+use Rattle.log_candidates.specs.inner.WorldSets.{label_of}
 use Prim.Native.Nat.{◌-◌, ◌≤◌}
-use native.Mathlib.Omega.{arith}
 use mathlib.Core.Path.{◌≡◌}
 use lib.ListN.{length}
 use Rattle.job_layout.specs.JobTables.{tables_of}
 use Rattle.log_candidates.specs.inner.WorldSets.{label_of}
-use Rattle.log_candidates.proofs.Holding.{Staying, staying_none, staying_more, staying_all, staying_worlds, column_count_few}
-use borrow.Author.Rules.{rules}
+use Rattle.log_candidates.proofs.Holding.{Staying}
 use Prim.Native.Nat.{◌-◌, ◌≤◌}
-use native.Mathlib.Omega.{arith}
 use mathlib.Core.Path.{◌≡◌}
 use lib.ListN.{length}
 use Rattle.job_layout.specs.JobTables.{tables_of}
 use Rattle.log_candidates.specs.inner.WorldSets.{label_of}
-use Rattle.log_candidates.proofs.Holding.{Staying, staying_none, staying_more, staying_all, staying_worlds, column_count_few}
+use Rattle.log_candidates.proofs.Holding.{Staying}
 use Rattle.log_candidates.proofs.stay.Given as goal
 
 abbrev pub invariant-loop-c : goal.invariant-loop-c

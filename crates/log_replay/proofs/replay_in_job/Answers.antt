@@ -1,15 +1,8 @@
-use Rattle.std.proofs.Common.{rules, ◌≡◌, false, ◌≤◌, ◌<◌, length, ℕ, ◌+◌, ◌-◌, ◌*◌, ◌/◌, ◌%◌, Bool, true, nat_eq, nat_lt, List, [], ◌∷◌, ◌++◌, slice_index_or, slice_set, bit_and, bit_or, Fits, w8, w32, w64, Bor, MutBor}
-use Rattle.job_layout.specs.JobTables.{tables_of}
-use Rattle.job_file.specs.Reading.{Opened}
-use Rattle.log_replay.specs.Logs.{log_entry, entry_count}
-use Rattle.log_replay.specs.ReplayAnswers.{log_size_wrong, entries_wrong, ReplayedRight, Replayed}
-use Rattle.log_candidates.specs.inner.WorldSets.{label_of, EntryInJob, WorldsIn}
-use Rattle.log_replay.specs.inner.Acting.{acts_so, Followed}
+use Rattle.std.proofs.Common.{rules, ◌≡◌, length}
 use mathlib.Core.Path.{◌≡◌, ◌∙◌}
 use lib.ListN.{length}
 use borrow.Author.Rules.{rules}
-use Prim.Native.Nat.{◌-◌}
-use Rattle.log_replay.proofs.ReplayLoop.{Replaying, replaying_start, replaying_end, entry_in_range, replaying_stuck, replaying_more}
+use Rattle.log_replay.proofs.ReplayLoop.{replaying_start, replaying_end, entry_in_range, replaying_stuck, replaying_more}
 use Rattle.log_replay.proofs.replay_in_job.Goals as goal
 
 pub loop-i-init : goal.loop-i-init

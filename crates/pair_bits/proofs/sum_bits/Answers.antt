@@ -1,14 +1,6 @@
-use Rattle.std.proofs.Common.{rules, ◌≡◌, ◌*◌, ◌<◌, ◌≤◌, length, ℕ, ◌+◌, ◌-◌, ◌/◌, ◌%◌, Bool, true, false, nat_eq, nat_lt, List, [], ◌∷◌, ◌++◌, slice_index_or, slice_set, bit_and, bit_or, Fits, w8, w32, w64, Bor, MutBor}
-use Rattle.pair_bits.specs.Sum.{bit_at, SumIs}
-use Rattle.pair_bits.specs.inner.Bits.{Cleared, OnlySet}
-use mathlib.Core.Logic.{⊎_elim}
-use Prim.Native.Nat.{◌-◌}
 use native.Mathlib.Omega.{arith}
-use borrow.Author.Tests.{ltb-true, ltb-false}
-use lib.ListN.{length}
-use Rattle.word_bits.proofs.WordBits.{shifted_one_positive}
 use Rattle.pair_bits.proofs.Sums.{sum_le}
-use Rattle.pair_bits.proofs.WordSums.{Summed, summed_none, summed_more, summed_rest, summed_all, summed_le}
+use Rattle.pair_bits.proofs.WordSums.{summed_none, summed_more, summed_rest, summed_all, summed_le}
 use Rattle.pair_bits.proofs.sum_bits.Goals as goal
 use Rattle.pair_bits.proofs.sum_bits.Goals.{then-loop-i-test+else-i-words, else-loop-i-test}
 
@@ -28,7 +20,7 @@ pub returns-then-i-words-2 : goal.returns-then-i-words-2
 returns-then-i-words-2 c =
     summed_rest c.loop-i.invariant
     (elim c.loop-i-test.branch [
-        then-loop-i-test+else-i-words w ↦ absurd (omega (arith, w.if-i-words.false))
+      | then-loop-i-test+else-i-words w ↦ absurd (omega (arith, w.if-i-words.false))
       | else-loop-i-test w ↦ omega arith
     ])
 

@@ -1,19 +1,10 @@
-use Rattle.std.proofs.Common.{rules, ◌≡◌, ℕ, ◌+◌, ◌-◌, ◌*◌, ◌<◌, ◌≤◌, length, ◌/◌, ◌%◌, Bool, true, false, nat_eq, nat_lt, List, [], ◌∷◌, ◌++◌, slice_index_or, slice_set, bit_and, bit_or, Fits, w8, w32, w64, Bor, MutBor}
-use Rattle.plan_check.specs.CheckAnswers.{Checked}
-use Rattle.plan_check.specs.ShortAnswers.{CheckedUpTo}
-use Rattle.plan_check.specs.inner.Outcomes.{outcome_of, CheckedLines, full_answer, short_answer}
-use borrow.Author.Rules.{rules}
-use native.Mathlib.Omega.{arith}
+use Rattle.std.proofs.Common.{ℕ, List}
 use mathlib.Core.Path.{sym, ◌∙◌}
-use Prim.Native.Nat.{◌*◌, ◌≤◌}
-use Rattle.job_layout.specs.declared.Job.{Job}
 use Rattle.job_file.specs.Reading.{Opened}
 use Rattle.job_file.proofs.Opening.{reading_refused}
-use Rattle.lamp_walk.proofs.WalkLoop.{few_steps}
-use Rattle.job_file.proofs.WellFormed.{sound}
 use Rattle.plan_check.specs.CheckAnswers.{Lent}
 use Rattle.plan_check.proofs.CheckRefusals.{file_refused_checked, buffer_refused, list_refused, words_refused}
-use Rattle.plan_check.proofs.CheckRefusals.{Enough, found_checked, has_room, fits_in, size_bound}
+use Rattle.plan_check.proofs.CheckRefusals.{Enough, found_checked}
 use Rattle.plan_check.proofs.check_lines.Goals as goal
 
 -- What the caller lends, as it was handed in.

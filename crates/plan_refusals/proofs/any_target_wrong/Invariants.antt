@@ -1,27 +1,20 @@
-use Rattle.std.proofs.Common.{◌-◌, ◌≡◌, ◌+◌, ◌≤◌, ◌<◌, length, ℕ, ◌*◌}
-use Rattle.lamp_line.specs.Refusals.{some_below}
-use Rattle.job_layout.specs.inner.Laid.{Laid}
-use Rattle.job_layout.specs.FileRefusals.{action_wrong, target_wrong_at, row_wrong, target_wrong}
-use borrow.Author.Rules.{rules}
-use native.Mathlib.Omega.{arith}
-use Prim.Native.Nat.{◌-◌}
-use Rattle.lamp_line.proofs.Scan.{NoneYet, none_yet_start, none_yet_more, scan_finds, scan_ends}
+use Rattle.std.proofs.Common.{◌-◌}
 use Rattle.job_layout.specs.FileRefusals.{target_wrong_at}
-use borrow.Author.Rules.{rules}
-use native.Mathlib.Omega.{arith}
 use Prim.Native.Nat.{◌-◌}
-use Rattle.lamp_line.proofs.Scan.{NoneYet, none_yet_start, none_yet_more, scan_finds, scan_ends}
+use Rattle.lamp_line.proofs.Scan.{NoneYet}
 use Rattle.job_layout.specs.FileRefusals.{target_wrong_at}
-use borrow.Author.Rules.{rules}
-use native.Mathlib.Omega.{arith}
 use Prim.Native.Nat.{◌-◌}
-use Rattle.lamp_line.proofs.Scan.{NoneYet, none_yet_start, none_yet_more, scan_finds, scan_ends}
+use Rattle.lamp_line.proofs.Scan.{NoneYet}
+use Rattle.job_layout.specs.FileRefusals.{target_wrong_at}
+use Prim.Native.Nat.{◌-◌}
+use Rattle.lamp_line.proofs.Scan.{NoneYet}
 use Rattle.job_layout.specs.FileRefusals.{target_wrong_at}
 use Rattle.plan_refusals.proofs.any_target_wrong.Given as goal
 
 abbrev pub invariant-loop-i : goal.invariant-loop-i
 invariant-loop-i l =
     NoneYet (target_wrong_at l.file l.from l.states) l.count l.i
+
 -- proposed from the loop's first test
 abbrev pub decreases-loop-i : goal.decreases-loop-i
 decreases-loop-i l = l.count - l.i

@@ -1,13 +1,6 @@
-use Rattle.std.proofs.Common.{rules, ◌≡◌, ◌+◌, ◌≤◌, ◌<◌, length, ℕ, ◌-◌, ◌*◌, ◌/◌, ◌%◌, Bool, true, false, nat_eq, nat_lt, List, [], ◌∷◌, ◌++◌, slice_index_or, slice_set, bit_and, bit_or, Fits, w8, w32, w64, Bor, MutBor}
-use Rattle.lamp_line.specs.Refusals.{some_below}
-use Rattle.job_layout.specs.inner.Laid.{Laid}
-use Rattle.job_layout.specs.FileRefusals.{action_wrong, target_wrong_at, row_wrong, target_wrong}
-use borrow.Author.Rules.{rules}
 use mathlib.Core.Path.{sym, ◌∙◌}
-use Prim.Native.Nat.{◌-◌}
 use native.Mathlib.Omega.{arith}
-use Rattle.lamp_line.proofs.Scan.{NoneYet, none_yet_start, none_yet_more, scan_finds, scan_ends}
-use Rattle.job_layout.specs.FileRefusals.{row_wrong}
+use Rattle.lamp_line.proofs.Scan.{none_yet_start, none_yet_more, scan_finds}
 use Rattle.plan_refusals.proofs.target_wrong.Goals as goal
 
 pub loop-q-init : goal.loop-q-init

@@ -1,22 +1,12 @@
-use Rattle.std.proofs.Common.{rules, ◌+◌, ◌*◌, ◌≤◌, length, ◌≡◌, ℕ, ◌-◌, ◌<◌, ◌/◌, ◌%◌, Bool, true, false, nat_eq, nat_lt, List, [], ◌∷◌, ◌++◌, slice_index_or, slice_set, bit_and, bit_or, Fits, w8, w32, w64, Bor, MutBor}
-use Rattle.job_layout.specs.JobTables.{tables_by}
-use Rattle.run_laws.specs.inner.Pairs.{pairs}
-use Rattle.line_trial.specs.inner.Trials.{Ready}
-use Rattle.plan_search.specs.inner.Searching.{Searched}
-use borrow.Author.Rules.{rules}
-use borrow.Author.Tests.{ltb-true, ltb-false}
-use mathlib.Core.Path.{◌≡◌, refl, ◌∙◌}
-use mathlib.Core.Logic.{inl, inr, ⊎_elim}
-use mathlib.Core.Bool.{true}
+use mathlib.Core.Path.{refl, ◌∙◌}
+use mathlib.Core.Logic.{inl, inr}
 use native.Mathlib.Omega.{arith}
-use Prim.Native.Nat.{◌+◌, ◌-◌}
-use lib.ListN.{length}
 use Rattle.run_laws.proofs.Pairs.{pairs_few}
 use Rattle.pair_bits.proofs.Sums.{sum_le}
 use Rattle.line_trial.proofs.TryingEnds.{ready_tables}
-use Rattle.plan_search.proofs.Sweeps.{Sweeping, sweeping_begins, sweeping_member, sweeping_on, sweeping_fails, sweeping_keeps}
+use Rattle.plan_search.proofs.Sweeps.{sweeping_begins, sweeping_on, sweeping_fails, sweeping_keeps}
 use Rattle.plan_search.proofs.Sweeps.{members_few, sweeping_lowest, sweeping_done, sweeping_failed}
-use Rattle.plan_search.proofs.SearchLoops.{AtKind, AtGroup, Enters, search_begins, kind_few, group_members, kind_held, kind_failed}
+use Rattle.plan_search.proofs.SearchLoops.{AtGroup, Enters, search_begins, kind_few, group_members, kind_held, kind_failed}
 use Rattle.plan_search.proofs.SearchLoops.{kinds_through, lamps_small, enters_layer, enters_next, through, stopped}
 use Rattle.plan_search.proofs.SearchLoops.{next_held, group_some, group_begun}
 use Rattle.plan_search.proofs.search_groups.Goals as goal
@@ -25,14 +15,13 @@ use Rattle.plan_search.proofs.search_groups.Goals.{then-count-layer-via-then-cou
 use Rattle.plan_search.proofs.search_groups.Goals.{then-next-layer+else-count-layer+else-longest-lamps, else-next-layer}
 
 pub search-init : goal.search-init
-search-init c =
-    (
-      search_begins _ c.requires.0 c.clear_bits.ensures c.requires.1 (omega (arith, c.requires.2, c.clear_bits.auto.words)),
-      refl,
-      refl,
-      refl,
-      refl,
-    )
+search-init c = (
+  search_begins _ c.requires.0 c.clear_bits.ensures c.requires.1 (omega (arith, c.requires.2, c.clear_bits.auto.words)),
+  refl,
+  refl,
+  refl,
+  refl,
+)
 
 pub loop-member-init : goal.loop-member-init
 loop-member-init c =
@@ -52,11 +41,11 @@ loop-member-preserved c =
     let turned = c.try_member-turn.ensures.0 in
     let remembers = c.try_member-turn.ensures.1 in (
       elim c.match-turn.branch [
-          in-Fails+else-end-eq0+then-clean w ↦
+        | in-Fails+else-end-eq0+then-clean w ↦
             rw (w.count-is, w.clean-is, w.lowest-is, w.ended-is)
             (sweeping_fails at here turned remembers w.in-Fails.is (omega (arith, w.if-end-eq0.false))
             (elim w.then-clean.branch [
-                then-clean-via-then-clean v ↦ inl v.if-clean.true
+              | then-clean-via-then-clean v ↦ inl v.if-clean.true
               | then-clean-via-else-clean+then-end-lowest v ↦ inr v.if-end-lowest.true
             ]))
         | in-Fails+else-end-eq0+else-clean+else-end-lowest w ↦
@@ -101,7 +90,7 @@ group_end-to-requires c =
     let at_next : let a = c.args in let s = c.search in let l = c.loop-kind in AtGroup a.file.now a.job a.longest l.memory l.list l.words l.count s.next s.layer s.lamps = kinds_through c.loop-kind.invariant.0 (omega (arith, c.loop-kind-test.false)) in
     let entered : let a = c.args in let l = c.loop-kind in Enters a.file.now a.job a.longest l.memory l.list l.words l.count c.search.next c.if-next-layer.layer c.if-next-layer.lamps = let at = at_next in
     elim c.if-next-layer.branch [
-        then-next-layer+else-count-layer+else-longest-lamps w ↦
+      | then-next-layer+else-count-layer+else-longest-lamps w ↦
           rw (w.layer-is, w.lamps-is) (enters_next at w.if-next-layer.true w.if-count-layer.false w.if-longest-lamps.false (omega arith))
       | else-next-layer w ↦ rw (w.layer-is, w.lamps-is) (enters_layer at w.if-next-layer.false)
     ] in
@@ -112,7 +101,7 @@ search-smaller c =
     let at_next : let a = c.args in let s = c.search in let l = c.loop-kind in AtGroup a.file.now a.job a.longest l.memory l.list l.words l.count s.next s.layer s.lamps = kinds_through c.loop-kind.invariant.0 (omega (arith, c.loop-kind-test.false)) in
     let entered : let a = c.args in let l = c.loop-kind in Enters a.file.now a.job a.longest l.memory l.list l.words l.count c.search.next c.if-next-layer.layer c.if-next-layer.lamps = let at = at_next in
     elim c.if-next-layer.branch [
-        then-next-layer+else-count-layer+else-longest-lamps w ↦
+      | then-next-layer+else-count-layer+else-longest-lamps w ↦
           rw (w.layer-is, w.lamps-is) (enters_next at w.if-next-layer.true w.if-count-layer.false w.if-longest-lamps.false (omega arith))
       | else-next-layer w ↦ rw (w.layer-is, w.lamps-is) (enters_layer at w.if-next-layer.false)
     ] in
@@ -124,7 +113,7 @@ search-preserved c =
     let at_next : let a = c.args in let s = c.search in let l = c.loop-kind in AtGroup a.file.now a.job a.longest l.memory l.list l.words l.count s.next s.layer s.lamps = kinds_through c.loop-kind.invariant.0 (omega (arith, c.loop-kind-test.false)) in
     let entered : let a = c.args in let l = c.loop-kind in Enters a.file.now a.job a.longest l.memory l.list l.words l.count c.search.next c.if-next-layer.layer c.if-next-layer.lamps = let at = at_next in
     elim c.if-next-layer.branch [
-        then-next-layer+else-count-layer+else-longest-lamps w ↦
+      | then-next-layer+else-count-layer+else-longest-lamps w ↦
           rw (w.layer-is, w.lamps-is) (enters_next at w.if-next-layer.true w.if-count-layer.false w.if-longest-lamps.false (omega arith))
       | else-next-layer w ↦ rw (w.layer-is, w.lamps-is) (enters_layer at w.if-next-layer.false)
     ] in
@@ -151,7 +140,7 @@ returns-then-count-layer c =
     record {
       so =
           elim c.then-count-layer.branch [
-              then-count-layer-via-then-count-layer w ↦ through at end c.sum_bits-reached.ensures w.if-count-layer.true
+            | then-count-layer-via-then-count-layer w ↦ through at end c.sum_bits-reached.ensures w.if-count-layer.true
             | then-count-layer-via-else-count-layer+then-longest-lamps w ↦
                 stopped at end c.sum_bits-reached.ensures w.if-count-layer.false w.if-longest-lamps.true (omega arith)
           ];

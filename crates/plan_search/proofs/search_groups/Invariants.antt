@@ -1,40 +1,16 @@
-use Rattle.std.proofs.Common.{◌+◌, ◌-◌, ◌*◌, ◌≤◌, length, ◌≡◌, ℕ, ◌<◌}
-use Rattle.job_layout.specs.JobTables.{tables_by}
-use Rattle.run_laws.specs.inner.Pairs.{pairs}
-use Rattle.line_trial.specs.inner.Trials.{Ready}
-use Rattle.plan_search.specs.inner.Searching.{Searched}
-use borrow.Author.Rules.{rules}
-use borrow.Author.Tests.{ltb-true, ltb-false}
-use mathlib.Core.Path.{◌≡◌, refl, ◌∙◌}
-use mathlib.Core.Logic.{inl, inr, ⊎_elim}
+use Rattle.std.proofs.Common.{◌+◌, ◌-◌, length, ◌≡◌}
+use mathlib.Core.Path.{◌≡◌}
 use mathlib.Core.Bool.{true}
-use native.Mathlib.Omega.{arith}
 use Prim.Native.Nat.{◌+◌, ◌-◌}
 use lib.ListN.{length}
-use Rattle.run_laws.proofs.Pairs.{pairs_few}
-use Rattle.pair_bits.proofs.Sums.{sum_le}
-use Rattle.line_trial.proofs.TryingEnds.{ready_tables}
-use Rattle.plan_search.proofs.Sweeps.{Sweeping, sweeping_begins, sweeping_member, sweeping_on, sweeping_fails, sweeping_keeps}
-use Rattle.plan_search.proofs.Sweeps.{members_few, sweeping_lowest, sweeping_done, sweeping_failed}
-use Rattle.plan_search.proofs.SearchLoops.{AtKind, AtGroup, Enters, search_begins, kind_few, group_members, kind_held, kind_failed}
-use Rattle.plan_search.proofs.SearchLoops.{kinds_through, lamps_small, enters_layer, enters_next, through, stopped}
-use Rattle.plan_search.proofs.SearchLoops.{next_held, group_some, group_begun}
-use borrow.Author.Rules.{rules}
-use borrow.Author.Tests.{ltb-true, ltb-false}
-use mathlib.Core.Path.{◌≡◌, refl, ◌∙◌}
-use mathlib.Core.Logic.{inl, inr, ⊎_elim}
+use Rattle.plan_search.proofs.Sweeps.{Sweeping}
+use Rattle.plan_search.proofs.SearchLoops.{AtKind}
+use mathlib.Core.Path.{◌≡◌}
 use mathlib.Core.Bool.{true}
-use native.Mathlib.Omega.{arith}
 use Prim.Native.Nat.{◌+◌, ◌-◌}
 use lib.ListN.{length}
-use Rattle.run_laws.proofs.Pairs.{pairs_few}
-use Rattle.pair_bits.proofs.Sums.{sum_le}
-use Rattle.line_trial.proofs.TryingEnds.{ready_tables}
-use Rattle.plan_search.proofs.Sweeps.{Sweeping, sweeping_begins, sweeping_member, sweeping_on, sweeping_fails, sweeping_keeps}
-use Rattle.plan_search.proofs.Sweeps.{members_few, sweeping_lowest, sweeping_done, sweeping_failed}
-use Rattle.plan_search.proofs.SearchLoops.{AtKind, AtGroup, Enters, search_begins, kind_few, group_members, kind_held, kind_failed}
-use Rattle.plan_search.proofs.SearchLoops.{kinds_through, lamps_small, enters_layer, enters_next, through, stopped}
-use Rattle.plan_search.proofs.SearchLoops.{next_held, group_some, group_begun}
+use Rattle.plan_search.proofs.Sweeps.{Sweeping}
+use Rattle.plan_search.proofs.SearchLoops.{AtKind}
 use Rattle.plan_search.proofs.search_groups.Given as goal
 
 abbrev pub invariant-loop-member : goal.invariant-loop-member

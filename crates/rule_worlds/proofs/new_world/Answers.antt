@@ -1,17 +1,15 @@
-use Rattle.std.proofs.Common.{rules, ◌≡◌, false, not, ◌≤◌, ◌<◌, length, take, ℕ, ◌+◌, ◌-◌, ◌*◌, ◌/◌, ◌%◌, Bool, true, nat_eq, nat_lt, List, [], ◌∷◌, ◌++◌, slice_index_or, slice_set, bit_and, bit_or, Fits, w8, w32, w64, Bor, MutBor}
-use Rattle.fluent_rules.specs.Fluents.{world_count, Values, world_number, values_in}
-use Rattle.fluent_rules.specs.CellRules.{some_pair, unwanted, new_value, new_values}
-use Rattle.rules_file.specs.RulesRefusal.{value_wrong}
+use Rattle.std.proofs.Common.{◌≡◌, ◌≤◌, length, ◌+◌, ◌*◌}
+use Rattle.fluent_rules.specs.Fluents.{Values}
+use Rattle.fluent_rules.specs.CellRules.{new_values}
 use mathlib.Core.Path.{◌≡◌, refl, sym, ◌∙◌}
-use Prim.Native.Nat.{◌+◌, ◌*◌, ◌-◌, ◌≤◌}
+use Prim.Native.Nat.{◌+◌, ◌*◌, ◌≤◌}
 use native.Mathlib.Omega.{arith}
-use borrow.Author.Rules.{rules}
 use lib.ListN.{length, get_or}
 use Rattle.fluent_rules.specs.CellRules.{new_values}
 use Rattle.fluent_rules.specs.Fluents.{Values}
 use Rattle.fluent_rules.proofs.NewWorlds.{values_length, new_value_at}
 use Rattle.fluent_rules.proofs.WorldNumbers.{worlds_are_values}
-use Rattle.rule_worlds.proofs.NewNumber.{Numbered, numbered_start, numbered_more, stays_small, numbered_done}
+use Rattle.rule_worlds.proofs.NewNumber.{numbered_more, stays_small, numbered_done}
 use Rattle.rule_worlds.proofs.NewValues.{new_values_right}
 use Rattle.rule_worlds.proofs.new_world.Goals as goal
 

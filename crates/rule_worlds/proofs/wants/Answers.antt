@@ -1,14 +1,9 @@
-use Rattle.std.proofs.Common.{rules, ◌≡◌, false, not, ◌≤◌, ◌<◌, length, take, ℕ, ◌+◌, ◌-◌, ◌*◌, ◌/◌, ◌%◌, Bool, true, nat_eq, nat_lt, List, [], ◌∷◌, ◌++◌, slice_index_or, slice_set, bit_and, bit_or, Fits, w8, w32, w64, Bor, MutBor}
-use Rattle.fluent_rules.specs.Fluents.{world_count, Values, world_number, values_in}
-use Rattle.fluent_rules.specs.CellRules.{some_pair, unwanted, new_value, new_values}
-use Rattle.rules_file.specs.RulesRefusal.{value_wrong}
+use Rattle.std.proofs.Common.{not}
+use Rattle.fluent_rules.specs.CellRules.{unwanted}
 use mathlib.Core.Bool.{not}
 use mathlib.Core.Path.{sym, ap, ◌∙◌}
-use Prim.Native.Nat.{◌-◌}
 use native.Mathlib.Omega.{arith}
-use borrow.Author.Rules.{rules}
-use lib.ListN.{length, get_or}
-use Rattle.lamp_line.proofs.Scan.{NoneYet, none_yet_start, none_yet_more, scan_finds, scan_ends}
+use Rattle.lamp_line.proofs.Scan.{none_yet_start, none_yet_more, scan_finds, scan_ends}
 use Rattle.fluent_rules.specs.CellRules.{unwanted}
 use Rattle.fluent_rules.proofs.Pairs.{pairs_below}
 use Rattle.rule_worlds.proofs.wants.Goals as goal

@@ -1,52 +1,25 @@
-use Rattle.std.proofs.Common.{length, ◌-◌, ◌≡◌, false, not, ◌≤◌, ◌<◌, take, ℕ, ◌+◌, ◌*◌}
-use Rattle.fluent_rules.specs.Fluents.{world_count, Values, world_number, values_in}
-use Rattle.fluent_rules.specs.CellRules.{some_pair, unwanted, new_value, new_values}
-use Rattle.rules_file.specs.RulesRefusal.{value_wrong}
-use mathlib.Core.Bool.{not}
-use mathlib.Core.Path.{sym, ap, ◌∙◌}
-use Prim.Native.Nat.{◌-◌}
-use native.Mathlib.Omega.{arith}
-use borrow.Author.Rules.{rules}
-use lib.ListN.{length, get_or}
-use Rattle.lamp_line.proofs.Scan.{NoneYet, none_yet_start, none_yet_more, scan_finds, scan_ends}
+use Rattle.std.proofs.Common.{length, ◌-◌}
 use Rattle.fluent_rules.specs.CellRules.{unwanted}
-use Rattle.fluent_rules.proofs.Pairs.{pairs_below}
-use mathlib.Core.Bool.{not}
-use mathlib.Core.Path.{sym, ap, ◌∙◌}
 use Prim.Native.Nat.{◌-◌}
-use native.Mathlib.Omega.{arith}
-use borrow.Author.Rules.{rules}
 use lib.ListN.{length, get_or}
-use Rattle.lamp_line.proofs.Scan.{NoneYet, none_yet_start, none_yet_more, scan_finds, scan_ends}
+use Rattle.lamp_line.proofs.Scan.{NoneYet}
 use Rattle.fluent_rules.specs.CellRules.{unwanted}
-use Rattle.fluent_rules.proofs.Pairs.{pairs_below}
-use mathlib.Core.Bool.{not}
-use mathlib.Core.Path.{sym, ap, ◌∙◌}
 use Prim.Native.Nat.{◌-◌}
-use native.Mathlib.Omega.{arith}
-use borrow.Author.Rules.{rules}
 use lib.ListN.{length, get_or}
-use Rattle.lamp_line.proofs.Scan.{NoneYet, none_yet_start, none_yet_more, scan_finds, scan_ends}
+use Rattle.lamp_line.proofs.Scan.{NoneYet}
 use Rattle.fluent_rules.specs.CellRules.{unwanted}
-use Rattle.fluent_rules.proofs.Pairs.{pairs_below}
-use mathlib.Core.Bool.{not}
-use mathlib.Core.Path.{sym, ap, ◌∙◌}
 use Prim.Native.Nat.{◌-◌}
-use native.Mathlib.Omega.{arith}
-use borrow.Author.Rules.{rules}
 use lib.ListN.{length, get_or}
-use Rattle.lamp_line.proofs.Scan.{NoneYet, none_yet_start, none_yet_more, scan_finds, scan_ends}
+use Rattle.lamp_line.proofs.Scan.{NoneYet}
 use Rattle.fluent_rules.specs.CellRules.{unwanted}
-use Rattle.fluent_rules.proofs.Pairs.{pairs_below}
-use mathlib.Core.Bool.{not}
-use mathlib.Core.Path.{sym, ap, ◌∙◌}
 use Prim.Native.Nat.{◌-◌}
-use native.Mathlib.Omega.{arith}
-use borrow.Author.Rules.{rules}
 use lib.ListN.{length, get_or}
-use Rattle.lamp_line.proofs.Scan.{NoneYet, none_yet_start, none_yet_more, scan_finds, scan_ends}
+use Rattle.lamp_line.proofs.Scan.{NoneYet}
 use Rattle.fluent_rules.specs.CellRules.{unwanted}
-use Rattle.fluent_rules.proofs.Pairs.{pairs_below}
+use Prim.Native.Nat.{◌-◌}
+use lib.ListN.{length, get_or}
+use Rattle.lamp_line.proofs.Scan.{NoneYet}
+use Rattle.fluent_rules.specs.CellRules.{unwanted}
 use Rattle.rule_worlds.proofs.wants.Given as goal
 
 abbrev pub invariant-loop-i : goal.invariant-loop-i

@@ -1,13 +1,6 @@
-use Rattle.std.proofs.Common.{rules, ◌≡◌, false, not, ◌≤◌, ◌<◌, length, take, ℕ, ◌+◌, ◌-◌, ◌*◌, ◌/◌, ◌%◌, Bool, true, nat_eq, nat_lt, List, [], ◌∷◌, ◌++◌, slice_index_or, slice_set, bit_and, bit_or, Fits, w8, w32, w64, Bor, MutBor}
-use Rattle.fluent_rules.specs.Fluents.{world_count, Values, world_number, values_in}
-use Rattle.fluent_rules.specs.CellRules.{some_pair, unwanted, new_value, new_values}
-use Rattle.rules_file.specs.RulesRefusal.{value_wrong}
-use mathlib.Core.Path.{◌≡◌, refl}
-use Prim.Native.Nat.{◌-◌}
 use native.Mathlib.Omega.{arith}
-use borrow.Author.Rules.{rules}
-use lib.ListN.{length, length-set}
-use Rattle.rule_worlds.proofs.WorldDigits.{Decoded, decoded_start, count_positive, next_positive, decoded_more, decoded_done}
+use lib.ListN.{length-set}
+use Rattle.rule_worlds.proofs.WorldDigits.{count_positive, next_positive, decoded_more, decoded_done}
 use Rattle.rule_worlds.proofs.world_values.Goals as goal
 
 pub nonzero_div-weight : goal.nonzero_div-weight

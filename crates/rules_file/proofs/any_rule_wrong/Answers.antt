@@ -1,18 +1,6 @@
-use Rattle.std.proofs.Common.{rules, ◌≡◌, ◌+◌, ◌*◌, ◌≤◌, ◌<◌, length, ℕ, ◌-◌, ◌/◌, ◌%◌, Bool, true, false, nat_eq, nat_lt, List, [], ◌∷◌, ◌++◌, slice_index_or, slice_set, bit_and, bit_or, Fits, w8, w32, w64, Bor, MutBor}
-use Rattle.fluent_rules.specs.Fluents.{world_count}
-use Rattle.fluent_rules.specs.CellRules.{some_pair}
-use Rattle.lamp_line.specs.Refusals.{some_below}
-use Rattle.rules_file.specs.RulesFile.{fluents, fluent_bytes, value_counts, rules_place, rule_size, rule_count, rule_from, rule_at}
-use Rattle.rules_file.specs.RulesRefusal.{column_wrong, value_wrong, rule_wrong, rules_wrong}
 use mathlib.Core.Path.{sym, ◌∙◌}
-use Prim.Native.Nat.{◌+◌, ◌*◌, ◌-◌, ◌≤◌}
 use native.Mathlib.Omega.{arith}
-use borrow.Author.Rules.{rules}
-use lib.ListN.{length}
-use Rattle.lamp_line.proofs.Scan.{NoneYet, none_yet_start, none_yet_more, scan_finds, scan_ends}
-use Rattle.rules_file.specs.RulesFile.{value_counts, rules_place, rule_size, rule_at}
-use Rattle.rules_file.specs.RulesRefusal.{rule_wrong}
-use Rattle.rules_file.proofs.RuleBytes.{rule_in}
+use Rattle.lamp_line.proofs.Scan.{none_yet_start, none_yet_more, scan_finds}
 use Rattle.rules_file.proofs.any_rule_wrong.Goals as goal
 
 pub loop-i-init : goal.loop-i-init

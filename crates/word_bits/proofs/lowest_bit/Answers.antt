@@ -1,9 +1,5 @@
-use Rattle.std.proofs.Common.{rules, ◌≡◌, ◌<◌, ℕ, ◌+◌, ◌-◌, ◌*◌, ◌≤◌, length, ◌/◌, ◌%◌, Bool, true, false, nat_eq, nat_lt, List, [], ◌∷◌, ◌++◌, slice_index_or, slice_set, bit_and, bit_or, Fits, w8, w32, w64, Bor, MutBor}
-use Rattle.word_bits.specs.Bits.{has_bit}
-use Rattle.word_bits.specs.inner.WordBits.{OnlyAdded, AddedIf, Lowest, WithoutLowest}
+use Rattle.std.proofs.Common.{rules}
 use borrow.Author.Rules.{rules}
-use native.Mathlib.Omega.{arith}
-use lib.Count.{trailing_le}
 use Rattle.word_bits.proofs.LowestBit.{lowest}
 use Rattle.word_bits.proofs.lowest_bit.Goals as goal
 

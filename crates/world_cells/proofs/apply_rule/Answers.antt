@@ -1,22 +1,14 @@
-use Rattle.std.proofs.Common.{rules, ◌≡◌, false, cond, ◌+◌, ◌*◌, ◌≤◌, ◌<◌, length, ℕ, ◌-◌, ◌/◌, ◌%◌, Bool, true, nat_eq, nat_lt, List, [], ◌∷◌, ◌++◌, slice_index_or, slice_set, bit_and, bit_or, Fits, w8, w32, w64, Bor, MutBor}
-use Rattle.lamp_line.specs.Refusals.{some_below}
-use Rattle.job_layout.specs.Layout.{width}
-use Rattle.fluent_rules.specs.CellsPart.{part_length}
-use Rattle.fluent_rules.specs.Fluents.{values_in}
-use Rattle.rules_file.specs.RulesFile.{value_counts, rule_count}
-use Rattle.rules_file.specs.RulesRefusal.{rules_wrong}
-use Rattle.world_cells.specs.inner.CellsWritten.{undecided, with_cell, row_start, cell_number, first_column, columns_end, Claimed, Applied, NotLegalYet, WorldFilled}
+use Rattle.std.proofs.Common.{◌≡◌, ◌+◌, ◌*◌, ◌≤◌, length}
+use Rattle.world_cells.specs.inner.CellsWritten.{row_start, first_column, columns_end}
 use mathlib.Core.Path.{◌≡◌, sym, ◌∙◌}
 use Prim.Native.Nat.{◌+◌, ◌*◌, ◌≤◌}
 use native.Mathlib.Omega.{arith}
-use borrow.Author.Rules.{rules}
-use borrow.Author.Tests.{not-true, not-false}
 use lib.ListN.{length}
 use Rattle.job_layout.specs.Layout.{byte}
 use Rattle.rules_file.specs.RulesFile.{fluents, rule_size}
 use Rattle.rules_file.proofs.RuleBytes.{fluent_bytes_length}
 use Rattle.world_cells.specs.inner.CellsWritten.{row_start, first_column, columns_end}
-use Rattle.world_cells.proofs.RuleApplied.{RuleOf, counts_in_file, rule_in_file, values_right, values_long, rule_bytes_in, rule_cells_in, new_asked, applied_here, applied_not_here}
+use Rattle.world_cells.proofs.RuleApplied.{RuleOf, values_right, values_long, rule_bytes_in, rule_cells_in, new_asked, applied_here, applied_not_here}
 use Rattle.world_cells.proofs.apply_rule.Goals as goal
 
 pub wants-requires : goal.wants-requires

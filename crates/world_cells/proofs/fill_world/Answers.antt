@@ -1,22 +1,13 @@
-use Rattle.std.proofs.Common.{rules, ◌≡◌, false, cond, ◌+◌, ◌*◌, ◌≤◌, ◌<◌, length, ℕ, ◌-◌, ◌/◌, ◌%◌, Bool, true, nat_eq, nat_lt, List, [], ◌∷◌, ◌++◌, slice_index_or, slice_set, bit_and, bit_or, Fits, w8, w32, w64, Bor, MutBor}
-use Rattle.lamp_line.specs.Refusals.{some_below}
-use Rattle.job_layout.specs.Layout.{width}
-use Rattle.fluent_rules.specs.CellsPart.{part_length}
-use Rattle.fluent_rules.specs.Fluents.{values_in}
-use Rattle.rules_file.specs.RulesFile.{value_counts, rule_count}
-use Rattle.rules_file.specs.RulesRefusal.{rules_wrong}
-use Rattle.world_cells.specs.inner.CellsWritten.{undecided, with_cell, row_start, cell_number, first_column, columns_end, Claimed, Applied, NotLegalYet, WorldFilled}
+use Rattle.std.proofs.Common.{◌≡◌, ◌≤◌, length}
 use mathlib.Core.Path.{◌≡◌, sym, ◌∙◌}
-use Prim.Native.Nat.{◌-◌, ◌≤◌}
+use Prim.Native.Nat.{◌≤◌}
 use native.Mathlib.Omega.{arith}
-use borrow.Author.Rules.{rules}
-use borrow.Author.Tests.{not-true}
 use lib.ListN.{length}
 use lib.Seq.{length-take-le}
 use Rattle.rules_file.specs.RulesFile.{fluents}
 use Rattle.rules_file.proofs.RuleBytes.{fluent_bytes_length}
 use Rattle.rules_file.proofs.RulesTested.{RulesRight, rules_right}
-use Rattle.world_cells.proofs.RulesApplied.{AppliedTo, applied_start, applied_more, applied_done, applied_early}
+use Rattle.world_cells.proofs.RulesApplied.{applied_more, applied_done, applied_early}
 use Rattle.world_cells.proofs.fill_world.Goals as goal
 
 pub fluent_bytes-counts-requires : goal.fluent_bytes-counts-requires

@@ -1,6 +1,3 @@
-use Rattle.std.proofs.Common.{◌≡◌, [], ◌∷◌, ◌+◌, ◌*◌, ◌<◌, ◌≤◌, length, ℕ, ◌-◌}
-use Rattle.answer_line.specs.AnswerLine.{decimal_by, numbers}
-use Rattle.answer_line.specs.inner.Writing.{Wrote}
 use Rattle.answer_line.proofs.text.+put_digits.Given as goal
 
 -- proposed from what the function passes where it calls itself

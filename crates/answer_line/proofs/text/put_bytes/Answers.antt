@@ -1,13 +1,11 @@
-use Rattle.std.proofs.Common.{rules, ◌≡◌, [], ◌∷◌, ◌+◌, ◌*◌, ◌<◌, ◌≤◌, length, ℕ, ◌-◌, ◌/◌, ◌%◌, Bool, true, false, nat_eq, nat_lt, List, ◌++◌, slice_index_or, slice_set, bit_and, bit_or, Fits, w8, w32, w64, Bor, MutBor}
-use Rattle.answer_line.specs.AnswerLine.{decimal_by, numbers}
+use Rattle.std.proofs.Common.{[], ◌∷◌, ◌<◌, length}
+use Rattle.answer_line.specs.AnswerLine.{numbers}
 use Rattle.answer_line.specs.inner.Writing.{Wrote}
-use borrow.Author.Rules.{rules}
-use mathlib.Core.Path.{◌≡◌, refl, subst, ◌∙◌}
+use mathlib.Core.Path.{refl, subst, ◌∙◌}
 use mathlib.Core.List.{[], ◌∷◌}
-use Prim.Native.Nat.{◌+◌, ◌*◌, ◌-◌, ◌≤◌, ◌<◌}
+use Prim.Native.Nat.{◌<◌}
 use native.Mathlib.Omega.{arith}
-use lib.ListN.{length, take}
-use lib.Seq.{take_all}
+use lib.ListN.{length}
 use Rattle.answer_line.specs.AnswerLine.{numbers}
 use Rattle.answer_line.specs.inner.Writing.{Wrote}
 use Rattle.answer_line.proofs.Writing.{next_number, wrote_then}

@@ -1,26 +1,16 @@
-use Rattle.std.proofs.Common.{length, ◌-◌, ◌≡◌, [], ◌∷◌, ◌+◌, ◌*◌, ◌<◌, ◌≤◌, ℕ}
-use Rattle.answer_line.specs.AnswerLine.{decimal_by, numbers}
-use Rattle.answer_line.specs.inner.Writing.{Wrote}
-use borrow.Author.Rules.{rules}
-use mathlib.Core.Path.{◌≡◌, refl, subst, ◌∙◌}
-use mathlib.Core.List.{[], ◌∷◌}
-use Prim.Native.Nat.{◌+◌, ◌*◌, ◌-◌, ◌≤◌, ◌<◌}
-use native.Mathlib.Omega.{arith}
-use lib.ListN.{length, take}
-use lib.Seq.{take_all}
+use Rattle.std.proofs.Common.{length, ◌-◌, ◌≡◌, ◌+◌, ◌*◌, ◌≤◌}
 use Rattle.answer_line.specs.AnswerLine.{numbers}
 use Rattle.answer_line.specs.inner.Writing.{Wrote}
-use Rattle.answer_line.proofs.Writing.{next_number, wrote_then}
-use borrow.Author.Rules.{rules}
-use mathlib.Core.Path.{◌≡◌, refl, subst, ◌∙◌}
-use mathlib.Core.List.{[], ◌∷◌}
-use Prim.Native.Nat.{◌+◌, ◌*◌, ◌-◌, ◌≤◌, ◌<◌}
-use native.Mathlib.Omega.{arith}
+use mathlib.Core.Path.{◌≡◌}
+use Prim.Native.Nat.{◌+◌, ◌*◌, ◌-◌, ◌≤◌}
 use lib.ListN.{length, take}
-use lib.Seq.{take_all}
 use Rattle.answer_line.specs.AnswerLine.{numbers}
 use Rattle.answer_line.specs.inner.Writing.{Wrote}
-use Rattle.answer_line.proofs.Writing.{next_number, wrote_then}
+use mathlib.Core.Path.{◌≡◌}
+use Prim.Native.Nat.{◌+◌, ◌*◌, ◌-◌, ◌≤◌}
+use lib.ListN.{length, take}
+use Rattle.answer_line.specs.AnswerLine.{numbers}
+use Rattle.answer_line.specs.inner.Writing.{Wrote}
 use Rattle.answer_line.proofs.text.put_bytes.Given as goal
 
 abbrev pub invariant-loop-i : goal.invariant-loop-i

@@ -1,10 +1,5 @@
-use Rattle.std.proofs.Common.{rules, ◌≡◌, ℕ, ◌≤◌, ◌<◌, length, take, ◌+◌, ◌-◌, ◌*◌, ◌/◌, ◌%◌, Bool, true, false, nat_eq, nat_lt, List, [], ◌∷◌, ◌++◌, slice_index_or, slice_set, bit_and, bit_or, Fits, w8, w32, w64, Bor, MutBor}
-use Rattle.search_laws.specs.inner.Entries.{group_end}
-use Rattle.working_list.specs.inner.Placing.{packed, unpacked, Packable, entries}
-use borrow.Author.Rules.{rules}
 use native.Mathlib.Omega.{arith}
-use Prim.Native.Nat.{◌-◌}
-use Rattle.working_list.proofs.GroupEnds.{GroupSoFar, so_far_begins, ends_here, so_far_on, ends_last}
+use Rattle.working_list.proofs.GroupEnds.{so_far_begins, ends_here, so_far_on, ends_last}
 use Rattle.working_list.proofs.list.group_end.Goals as goal
 
 pub loop-to-init : goal.loop-to-init

@@ -1,12 +1,10 @@
-use Rattle.std.proofs.Common.{rules, ◌≡◌, ℕ, ◌≤◌, ◌<◌, length, take, ◌+◌, ◌-◌, ◌*◌, ◌/◌, ◌%◌, Bool, true, false, nat_eq, nat_lt, List, [], ◌∷◌, ◌++◌, slice_index_or, slice_set, bit_and, bit_or, Fits, w8, w32, w64, Bor, MutBor}
-use Rattle.search_laws.specs.inner.Entries.{group_end}
-use Rattle.working_list.specs.inner.Placing.{packed, unpacked, Packable, entries}
+use Rattle.std.proofs.Common.{◌≡◌, ◌<◌, Bool, true, false}
+use Rattle.working_list.specs.inner.Placing.{packed}
 use mathlib.Core.Path.{◌≡◌, refl}
 use mathlib.Core.Bool.{Bool, true, false, cond}
 use Prim.Native.Nat.{◌<◌}
 use native.Mathlib.Omega.{arith}
 use mir.Val.{bool_byte}
-use borrow.Author.Rules.{rules}
 use Rattle.working_list.specs.inner.Placing.{packed}
 use Rattle.working_list.proofs.list.pack.Goals as goal
 
