@@ -15,15 +15,16 @@ INCLUDEDIR = $(PREFIX)/include
 LIBDIR = $(PREFIX)/lib
 MANDIR = $(PREFIX)/share/man
 
-# Object files and test programs; and the programs for users.
+# Object files and test programs; and the programs in C for users.
 BUILD = target/c
 BIN = target/bin
 
 VERSION := $(shell sed -n 's/^\#define NESSFLURRY_VERSION //p' include/nessflurry.h)
 
-LIBRARY = target/staticlib/libnessflurry_c.a
-PAIR_SUM = target/staticlib/libpair_sum_c.a
-PROGRAM = target/bin/nessflurry
+# Where the toolchain leaves what it builds: in the folder of each crate.
+LIBRARY = crates/nessflurry_c/out/libnessflurry_c.a
+PAIR_SUM = crates/pair_sum_c/out/libpair_sum_c.a
+PROGRAM = crates/nessflurry/out/nessflurry
 
 .DELETE_ON_ERROR:
 .PHONY: all help install uninstall clean bench fuzz
@@ -32,7 +33,7 @@ PROGRAM = target/bin/nessflurry
 all: $(LIBRARY) $(BIN)/lampline $(BIN)/street
 
 help:
-	@echo 'make                 the library for C, lampline and the example, under target/'
+	@echo 'make                 the library for C, and under target/bin lampline and the example'
 	@echo 'make test            all tests from outside; test-headers, test-plain, test-compare and test-users are its parts'
 	@echo 'make test-long       the comparison with thirteen times as many calls'
 	@echo 'make test-sanitize   fewer, with the C side compiled to watch its own memory and arithmetic'
@@ -43,25 +44,26 @@ help:
 	@echo 'make uninstall       removes them'
 	@echo 'make clean           removes what was made from C; proofs and the corpus of the fuzzer stay'
 
-# ---- What the toolchain proves and builds. One call of it at a time: they share target/. ----
+# ---- What the toolchain proves and builds, in the folder of a crate. One call of it at a time: they prove the same crates below. ----
 
-sources_of = $(shell find $$(tools/crate_folders $(1)) -name '*.rt' -o -name '*.antt')
+sources_of = $(shell find $$(tools/crate_folders $(1)) -name out -prune -o \( -name '*.rt' -o -name '*.antt' \) -print)
 
+# $(call prove,CRATE,COMMAND): a program is built by running it, here on an empty input.
 define prove
 @mkdir -p target
 @echo 'proving and building $@'
-@$(RT) $(1) > target/make.log 2>&1 || { cat target/make.log; exit 1; }
+@(cd crates/$(1) && $(RT) $(2)) < /dev/null > target/make.log 2>&1 || { cat target/make.log; exit 1; }
 @test -s $@ && touch $@
 endef
 
 $(LIBRARY): crates.txt $(call sources_of,nessflurry_c)
-	$(call prove,staticlib nessflurry_c)
+	$(call prove,nessflurry_c,lib)
 
 $(PAIR_SUM): crates.txt $(call sources_of,pair_sum_c) | $(LIBRARY)
-	$(call prove,staticlib pair_sum_c)
+	$(call prove,pair_sum_c,lib)
 
 $(PROGRAM): crates.txt $(call sources_of,nessflurry) | $(LIBRARY) $(PAIR_SUM)
-	$(call prove,check nessflurry)
+	$(call prove,nessflurry,run)
 
 # ---- What is compiled from C ----
 
