@@ -2,9 +2,9 @@
  * Nessflurry for C and C++: a proved checker for the plans of street lamp cabinets, and the stepper that runs inside a cabinet.
  * The library is for x86-64 Linux; this header is for C99 or later and C++11 or later.
  *
- * `make` or `rt staticlib nessflurry_c` builds the library; then compile and link against it, in place or after `make install`:
+ * `make`, or `rt lib` in crates/nessflurry_c, builds the library; then compile and link against it, in place or after `make install`:
  *
- *     cc -Iinclude program.c target/staticlib/libnessflurry_c.a
+ *     cc -Iinclude program.c crates/nessflurry_c/out/libnessflurry_c.a
  *     cc program.c $(pkg-config --cflags --libs nessflurry)
  *
  * Each operation returns its answer as one 64-bit number. Test its code first: NESSFLURRY_REFUSED means that the call did nothing,
