@@ -68,19 +68,19 @@ pub fn next_action(file: &[u8], state: Cabinet) -> ActionAnswer
 }
 
 // The branch of a state below S for any result. A result that is not below R has none.
-fn branch(file: &[u8], job: Job, state: ProgramState, res: u8) -> Target
+fn branch(file: &[u8], job: Job, state: ProgramState, sensed: u8) -> Target
     requires { Opened file.now job × (state.0 < job.states) }
-    ensures { target_of result ≡ (tables_of file.now).target state res }
+    ensures { target_of result ≡ (tables_of file.now).target state sensed }
 {
-    if job.results <= res {
+    if job.results <= sensed {
         return Target::NoBranch;
     }
-    plan_target(file, job, state, res)
+    plan_target(file, job, state, sensed)
 }
 
 // Takes the report of a sensed result, for any file, state and result.
-pub fn report(file: &[u8], state: Cabinet, res: u8) -> ReportAnswer
-    ensures { result ≡ report_answer file.now state res }
+pub fn report(file: &[u8], state: Cabinet, sensed: u8) -> ReportAnswer
+    ensures { result ≡ report_answer file.now state sensed }
 {
     let reading = read_job(file);
     let Reading::Job(job) = reading else {
@@ -94,7 +94,7 @@ pub fn report(file: &[u8], state: Cabinet, res: u8) -> ReportAnswer
     if from.0 == job.states {
         return ReportAnswer::Refused(17, state);
     }
-    let target = branch(file, job, from, res);
+    let target = branch(file, job, from, sensed);
     let Target::To(to) = target else {
         return ReportAnswer::Refused(18, state);
     };

@@ -15,16 +15,16 @@ use job_layout::places::{cell_count, mark_place, next_place};
 use lamp_line::WorldState;
 
 // Most cells are legal and in range; for those the first two tests are enough.
-fn is_cell_wrong(worlds: u8, results: u8, next: u8, res: u8) -> bool
-    ensures { result ≡ cell_wrong_in worlds results next res }
+fn is_cell_wrong(worlds: u8, results: u8, next: u8, sensed: u8) -> bool
+    ensures { result ≡ cell_wrong_in worlds results next sensed }
 {
     if worlds <= next {
         return true;
     }
-    if res < results {
+    if sensed < results {
         return false;
     }
-    (res != 255) | (next != 0)
+    (sensed != 255) | (next != 0)
 }
 
 // One of the `count` cells from `from` on is out of range.

@@ -94,7 +94,7 @@ module _ (t : Tables) where
     pub start_numbered : (s x : ℕ) → graph.Start s x → PairNumber x
     start_numbered s x (m, e) = (pair t.first (world_state s), e, start_in_range (world_state s) m)
 
-    -- The pairs that have edges have numbers below S-as-W.
+    -- The pairs that have edges have numbers below S·W.
     pub coded : Coded graph PairNumber (λ x. x) (t.states * t.worlds)
     coded =
         record {

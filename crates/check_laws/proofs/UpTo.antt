@@ -45,7 +45,7 @@ module _ (t : Tables) (wf : WellFormed t) (longest : ℕ) where
       go none (yes h) = h
       go none (no h) = absurd (none kind start line (omega arith) right.fails)
 
-  -- If no line of up to S-as-W + 1 lamps fails, the plan is correct on all lines.
+  -- If no line of up to S·W + 1 lamps fails, the plan is correct on all lines.
   pub far_enough : t.states * t.worlds + 1 ≤ longest → NoneUpTo t longest → Correct (lamp_problem t) (plan_of t)
   unfolding Right
   far_enough far none = go (verdict_of t) (verdict_right t wf)

@@ -120,6 +120,6 @@ module _ (t : Tables) where
       unfolding Right
       counterexample = subst (Right t) e verdict_right
 
-      -- Its line has at most S-as-W + 1 lamps.
+      -- Its line has at most S·W + 1 lamps.
       pub failing_short : length line.lamps ≤ t.states * t.worlds + 1
       failing_short = counterexample.short

@@ -1,4 +1,4 @@
--- The fate of a pair is given by any series of more than S-as-W actions. If S-as-W actions do not decide it, the walk has lingered at
+-- The fate of a pair is given by any series of more than S·W actions. If S·W actions do not decide it, the walk has lingered at
 -- the lamp for so long that it circles; so it still stays after any number of actions.
 use mathlib.Core.Path.{◌≡◌, refl, sym, ap, subst, ◌∙◌}
 use mathlib.Core.Logic.{◌≢◌}
@@ -79,7 +79,7 @@ module _ (t : Tables) (c : ℕ) where
       let (p'', f) = lingers_far more in
       (p'', series_first t c n p (stays p') e ∙ f)
 
--- ---- a walk that lingers for S-as-W actions
+-- ---- a walk that lingers for S·W actions
 
 module _ (t : Tables) (wf : WellFormed t) (c : ℕ) (c< : c < column_count t) (p : Pair) (range : InRange t p) where
   -- A line at this column.
@@ -126,7 +126,7 @@ module _ (t : Tables) (wf : WellFormed t) (c : ℕ) (c< : c < column_count t) (p
         go (stays p') e = refl
         go (passes p') e = absurd (never_passes n p' e)
 
-  -- Any series of more than S-as-W actions gives the fate of the pair.
+  -- Any series of more than S·W actions gives the fate of the pair.
   pub series_fate : (n : ℕ) → t.states * t.worlds < n → settled (series t c n p) ≡ uncounted (lamp_walk t p c)
   series_fate n h = go (series t c most p) refl
     where

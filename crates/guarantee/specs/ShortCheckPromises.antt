@@ -77,7 +77,7 @@ NoneRuns = AfterNone (λ s start line. RunEnds s start line Goal)
 abbrev pub NoneServed : Type 0
 NoneServed = AfterNone Served
 
--- None does not make the plan correct, unless the bound is large: S-as-W + 1 lamps are enough.
+-- None does not make the plan correct, unless the bound is large: S·W + 1 lamps are enough.
 abbrev pub FarEnough : Type 0
 FarEnough =
     (s : List ℕ) (longest n : ℕ) (before after : Lent) → CheckedUpTo s longest (short.NoneUpTo n) before after →

@@ -108,11 +108,11 @@ pub fn plan_action(file: &[u8], job: Job, state: ProgramState) -> u8
 }
 
 // The branch of a program state that is not final, for a result.
-pub fn plan_target(file: &[u8], job: Job, state: ProgramState, res: u8) -> Target
-    requires { Opened file.now job × (state.0 < job.states) × (res < job.results) }
-    ensures { target_of result ≡ (tables_of file.now).target state res }
+pub fn plan_target(file: &[u8], job: Job, state: ProgramState, sensed: u8) -> Target
+    requires { Opened file.now job × (state.0 < job.states) × (sensed < job.results) }
+    ensures { target_of result ≡ (tables_of file.now).target state sensed }
 {
-    let at = action_place(job, state) + 1 + res as usize;
+    let at = action_place(job, state) + 1 + sensed as usize;
     let target = file[at];
     if target == 255 {
         return Target::NoBranch;

@@ -46,7 +46,7 @@ run_to t end lamps = run t (world_state 0) (line_of end lamps)
 abbrev run_on : Tables → List ℕ → Run
 run_on t lamps = run_to t 0 lamps
 
--- State 0 goes to the final state by one action. S-as-W is 1, so this step is also the last that may be counted.
+-- State 0 goes to the final state by one action. S·W is 1, so this step is also the last that may be counted.
 abbrev one_step : Tables
 one_step = small 0 1 1 (λ a w c. outcome w 0 ∷ []) (λ w c. true) (λ q r. some (program_state 1))
 
@@ -58,7 +58,7 @@ at_once = small 0 1 0 (λ a w c. []) (λ w c. eqb c 1) (λ q r. none)
 abbrev boxed : Tables
 boxed = small 1 1 0 (λ a w c. []) (λ w c. eqb c 1) (λ q r. none)
 
--- State 0 goes to the final state by one action, of the 2 that S-as-W allows. The goal is true at a lamp only.
+-- State 0 goes to the final state by one action, of the 2 that S·W allows. The goal is true at a lamp only.
 abbrev stopping : Tables
 stopping = small 0 1 2 (λ a w c. outcome w 0 ∷ []) (λ w c. eqb c 1) (λ q r. some (program_state 2))
 
@@ -69,7 +69,7 @@ counting =
     (λ w c. true)
     (λ q r. cond (eqb r 0) (some (program_state 0)) (some (program_state 1)))
 
--- State 0 looks whether there is a lamp, state 1 moves on: two steps for each lamp, and S-as-W is 2.
+-- State 0 looks whether there is a lamp, state 1 moves on: two steps for each lamp, and S·W is 2.
 abbrev passing : Tables
 passing =
     small 0 1 2 (λ a w c. cond (eqb a 0) (outcome w c ∷ []) (outcome w 0 ∷ []))
@@ -85,7 +85,7 @@ abbrev branchless : Tables
 branchless = small 0 1 1 (λ a w c. outcome w 0 ∷ []) (λ w c. true) (λ q r. none)
 
 -- The runs, and a rank. `kind_after_ends` is at a lamp of kind 1, which has column 2. `counted_anew` counts 5 steps along two lamps although
--- S-as-W is 2; `ends_at_limit` and `stopped_below` give the same run a limit.
+-- S·W is 2; `ends_at_limit` and `stopped_below` give the same run a limit.
 pub record Examples : Type 0 where
   pub final_before_circling : run_on one_step [] ≡ ran Goal 1
   pub goal_by_column : run_on at_once (1 ∷ 1 ∷ 1 ∷ []) ≡ ran Goal 0

@@ -32,7 +32,7 @@ module _ (t : Tables) where
   rank start line = length line.lamps ∷ (line.lamps ++ (line.end ∷ start.0 ∷ []))
 
   -- What a failing check names: the line fails from the start with this failure kind, it comes first of all that fail, and it has
-  -- at most S-as-W + 1 lamps.
+  -- at most S·W + 1 lamps.
   pub record Counterexample (kind : FailureKind) (start : WorldState) (line : Line) : Type 0 where
     pub fails : Fails kind start line
     pub first :

@@ -27,7 +27,7 @@ module _ (t : Tables) where
     pub count : k ≡ length labels + own_steps x
 
   -- The execution goes on for ever at one lamp, or at the line's end. `labels` are its steps up to its arrival there. k counts
-  -- these, and S-as-W more.
+  -- these, and S·W more.
   pub record CirclesAfter (k : ℕ) (start : WorldState) (line : Line) : Type 0 where
     pub labels : List Label
     pub state : ProgramState

@@ -56,7 +56,7 @@ one_more (arrived p k) = arrived p (suc k)
 abbrev after : ℕ → Run → Run
 after n (ran x k) = ran x (n + k)
 
--- The walk at the line's end ends the run. No lamp can be passed there, so with well_formed tables the second clause is never used.
+-- The walk at the line's end ends the run. No lamp can be passed there, so with well-formed tables the second clause is never used.
 abbrev at_end : Walk → Run
 at_end (ended x k) = ran x k
 at_end (arrived p k) = ran (Failure NotLegal) k
@@ -88,7 +88,7 @@ module _ (t : Tables) where
       (ends (judged p.world column))
       (carried_out p.state (t.cell (t.action p.state) p.world column))
 
-  -- The walk at one lamp, or at the line's end, where n steps may still be counted of the S-as-W that are allowed there. When none is
+  -- The walk at one lamp, or at the line's end, where n steps may still be counted of the S·W that are allowed there. When none is
   -- left the walk ends with failure 3, unless it is in state S: 01, "One run", has the test for failure 3 directly after the one
   -- for state S.
   unfoldable pub walk : ℕ → Pair → ℕ → Walk

@@ -89,7 +89,7 @@ pub fn one_action(
     try_action(file, job, state, world, column)
 }
 
-// The ending once S.W steps are counted at a lamp.
+// The ending once S·W steps are counted at a lamp.
 fn spent(file: &[u8], job: Job, state: ProgramState, world: WorldState, column: u8) -> Ending
     requires { Opened file.now job × (world.0 < job.worlds) × (column < job_columns job) }
     ensures { result ≡ spent_ending (tables_of file.now) state world column }

@@ -48,7 +48,7 @@ module _
   member_of = rw taken_size met.member_of
 
   module _ (wf : WellFormed t) where
-    -- The line has at most S-as-W + 1 lamps, so a buffer with as many bytes has room.
+    -- The line has at most S·W + 1 lamps, so a buffer with as many bytes has room.
     line_fits : {room : ℕ} → t.states * t.worlds + 1 ≤ room → lamps ≤ room
     line_fits h = omega (arith, met.lamps_are, failing_short t wf met.verdict_is)
 

@@ -150,8 +150,8 @@ pub extern "C" fn nessflurry_raw_action(file: &[u8], state: u8, lamps: u16) -> u
 }
 
 #[unsafe(no_mangle)]
-pub extern "C" fn nessflurry_raw_report(file: &[u8], state: u8, lamps: u16, res: u8) -> u64
-    ensures { result ≡ report_word (report_answer file.now (record { state = program_state state; lamps = lamps }) res) }
+pub extern "C" fn nessflurry_raw_report(file: &[u8], state: u8, lamps: u16, sensed: u8) -> u64
+    ensures { result ≡ report_word (report_answer file.now (record { state = program_state state; lamps = lamps }) sensed) }
 {
     report_word(report(
         file,
@@ -159,7 +159,7 @@ pub extern "C" fn nessflurry_raw_report(file: &[u8], state: u8, lamps: u16, res:
             state: ProgramState(state),
             lamps: lamps,
         },
-        res,
+        sensed,
     ))
 }
 

@@ -10,7 +10,7 @@ use Rattle.plan_check.specs.declared.Failure.{Failure}
 use Rattle.plan_check.specs.declared.CheckAnswer.{CheckAnswer}
 use Rattle.plan_check.specs.declared.CheckAnswer.TheVariants as answer
 
--- 12: the line buffer has fewer than S-as-W + 1 bytes.
+-- 12: the line buffer has fewer than S·W + 1 bytes.
 abbrev pub buffer_short : Tables → ℕ → Bool
 buffer_short t size = ltb size (t.states * t.worlds + 1)
 

@@ -1,4 +1,4 @@
--- Failure 3: a walk that has made S-as-W steps at one lamp and is not in the final state stays there for ever. Of the S-as-W + 1 pairs
+-- Failure 3: a walk that has made S·W steps at one lamp and is not in the final state stays there for ever. Of the S·W + 1 pairs
 -- that it has met, two are equal. So every later pair is one of the earlier ones, and from those the action stays.
 use mathlib.Core.Path.{◌≡◌, refl, sym, ap, subst, ◌∙◌}
 use mathlib.Core.Logic.{◌≢◌}
@@ -63,7 +63,7 @@ module _ (t : Tables) (c : ℕ) where
   lingers_live (stays_on {p = p} {p' = p'} e r) zero h = rw (orbit_begins p) (stays_live p p' e)
   lingers_live (stays_on {p = p} {p' = p'} e r) (suc i) h = rw (orbit_after p p' e i) (lingers_live r i (omega arith))
 
--- A walk from p at the first lamp of a line, or at the line's end, that has made S-as-W steps there.
+-- A walk from p at the first lamp of a line, or at the line's end, that has made S·W steps there.
 module _
     (t : Tables) (wf : WellFormed t) (line : Line) (p : Pair)
     (range : InRange t p) (lingers : Lingers t (column t line) (t.states * t.worlds) p) where

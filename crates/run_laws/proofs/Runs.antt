@@ -1,4 +1,4 @@
--- Laws of the run lamp by lamp, and the bound of its steps: it counts at most S-as-W at each lamp and at the line's end.
+-- Laws of the run lamp by lamp, and the bound of its steps: it counts at most S·W at each lamp and at the line's end.
 use mathlib.Core.Path.{◌≡◌, refl}
 use mathlib.Core.List.{List, [], ◌∷◌}
 use Prim.Native.Nat.{ℕ, zero, suc, ◌+◌, ◌*◌, ◌≤◌}

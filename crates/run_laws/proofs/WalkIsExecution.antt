@@ -1,4 +1,4 @@
--- What the one-lamp walk says is true of the execution. In particular, where the walk has made all S-as-W steps at the lamp, the
+-- What the one-lamp walk says is true of the execution. In particular, where the walk has made all S·W steps at the lamp, the
 -- execution stays there for ever.
 use Prim.Native.Nat.{◌*◌}
 use Rattle.lamp_line.specs.Tables.{Tables, Line, column}

@@ -25,32 +25,32 @@ use rule_worlds::{new_world, wants, world_values};
 use rules_file::{fluent_bytes, rule_count, rule_place};
 
 // Writes the two bytes of cell i.
-pub fn write_cell(part: &mut [u8], i: usize, next: WorldState, res: u8)
+pub fn write_cell(part: &mut [u8], i: usize, next: WorldState, sensed: u8)
     requires { 2 * i + 1 < length part.old }
-    ensures { part.new ≡ with_cell part.old i next.0 res }
+    ensures { part.new ≡ with_cell part.old i next.0 sensed }
 {
     part[2 * i] = next.0;
-    part[2 * i + 1] = res;
+    part[2 * i + 1] = sensed;
 }
 
 // Writes cell i, unless a rule has written it.
-fn claim_cell(part: &mut [u8], i: usize, next: WorldState, res: u8)
+fn claim_cell(part: &mut [u8], i: usize, next: WorldState, sensed: u8)
     requires { 2 * i + 1 < length part.old }
-    ensures { part.new ≡ cond (undecided part.old i) (with_cell part.old i next.0 res) part.old }
+    ensures { part.new ≡ cond (undecided part.old i) (with_cell part.old i next.0 sensed) part.old }
 {
     if part[2 * i + 1] == 255 {
-        write_cell(part, i, next, res);
+        write_cell(part, i, next, sensed);
     }
 }
 
 // Writes the cells from `first` up to and without `end` that no rule has written.
-fn claim_cells(part: &mut [u8], first: usize, end: usize, next: WorldState, res: u8)
+fn claim_cells(part: &mut [u8], first: usize, end: usize, next: WorldState, sensed: u8)
     requires { (first ≤ end) × (2 * end ≤ length part.old) }
-    ensures { Claimed part.old part.new first end next.0 res }
+    ensures { Claimed part.old part.new first end next.0 sensed }
 {
     let mut i = first;
     while i < end {
-        claim_cell(part, i, next, res);
+        claim_cell(part, i, next, sensed);
         i += 1;
     }
 }

@@ -20,20 +20,20 @@ returns-in_default c =
     let a = c.args in
     report_file_refused a.file.now
     (reading_refused a.file.now _ _ _ c.read_job-reading.ensures c.in_default.is c.refusal_number.ensures)
-    a.state a.res
+    a.state a.sensed
 
 -- ---- the tests of the state
 pub returns-then-job-from : goal.returns-then-job-from
 returns-then-job-from c =
     let opened : Opened c.args.file.now c.in-Job.job = sym c.read_job-reading.ensures ∙ c.in-Job.is in
     let states : c.in-Job.job.states ≡ (tables_of c.args.file.now).states = states_are c.args.file.now c.in-Job.job opened in
-    sym (report_above c.args.file.now opened c.args.state c.args.res (omega (arith, states, c.if-job-from.true)))
+    sym (report_above c.args.file.now opened c.args.state c.args.sensed (omega (arith, states, c.if-job-from.true)))
 
 pub returns-then-from-job : goal.returns-then-from-job
 returns-then-from-job c =
     let opened : Opened c.args.file.now c.in-Job.job = sym c.read_job-reading.ensures ∙ c.in-Job.is in
     let states : c.in-Job.job.states ≡ (tables_of c.args.file.now).states = states_are c.args.file.now c.in-Job.job opened in
-    sym (report_ended c.args.file.now opened c.args.state c.args.res (c.if-from-job.true ∙ states))
+    sym (report_ended c.args.file.now opened c.args.state c.args.sensed (c.if-from-job.true ∙ states))
 
 pub returns-in_default-target : goal.returns-in_default-target
 returns-in_default-target c =
@@ -41,7 +41,7 @@ returns-in_default-target c =
     let states : c.in-Job.job.states ≡ (tables_of c.args.file.now).states = states_are c.args.file.now c.in-Job.job opened in
     let below_job : c.args.state.state.0 < c.in-Job.job.states = omega (arith, c.if-job-from.false, c.if-from-job.false) in
     let below : c.args.state.state.0 < (tables_of c.args.file.now).states = omega (arith, states, below_job) in
-    sym (report_no_branch c.args.file.now opened c.args.state c.args.res below
+    sym (report_no_branch c.args.file.now opened c.args.state c.args.sensed below
     (sym c.branch-target.ensures ∙ ap target_of c.in_default-target.is))
 
 pub moves_on-requires : goal.moves_on-requires
@@ -56,8 +56,8 @@ returns-then-not-moves_on c =
     let states : c.in-Job.job.states ≡ (tables_of c.args.file.now).states = states_are c.args.file.now c.in-Job.job opened in
     let below_job : c.args.state.state.0 < c.in-Job.job.states = omega (arith, c.if-job-from.false, c.if-from-job.false) in
     let below : c.args.state.state.0 < (tables_of c.args.file.now).states = omega (arith, states, below_job) in
-    let branches : (tables_of c.args.file.now).target c.args.state.state c.args.res ≡ some c.in_To-target.to = sym c.branch-target.ensures ∙ ap target_of c.in_To-target.is in
-    sym (report_stays c.args.file.now opened c.args.state c.args.res below branches (ap (moves_on (tables_of c.args.file.now)) (sym c.plan_action-action.ensures) ∙ sym c.moves_on.ensures ∙ c.if-not-moves_on.true))
+    let branches : (tables_of c.args.file.now).target c.args.state.state c.args.sensed ≡ some c.in_To-target.to = sym c.branch-target.ensures ∙ ap target_of c.in_To-target.is in
+    sym (report_stays c.args.file.now opened c.args.state c.args.sensed below branches (ap (moves_on (tables_of c.args.file.now)) (sym c.plan_action-action.ensures) ∙ sym c.moves_on.ensures ∙ c.if-not-moves_on.true))
 
 pub returns-then-lamps-eq0 : goal.returns-then-lamps-eq0
 returns-then-lamps-eq0 c =
@@ -65,8 +65,8 @@ returns-then-lamps-eq0 c =
     let states : c.in-Job.job.states ≡ (tables_of c.args.file.now).states = states_are c.args.file.now c.in-Job.job opened in
     let below_job : c.args.state.state.0 < c.in-Job.job.states = omega (arith, c.if-job-from.false, c.if-from-job.false) in
     let below : c.args.state.state.0 < (tables_of c.args.file.now).states = omega (arith, states, below_job) in
-    let branches : (tables_of c.args.file.now).target c.args.state.state c.args.res ≡ some c.in_To-target.to = sym c.branch-target.ensures ∙ ap target_of c.in_To-target.is in
-    sym (report_no_lamp c.args.file.now opened c.args.state c.args.res below branches
+    let branches : (tables_of c.args.file.now).target c.args.state.state c.args.sensed ≡ some c.in_To-target.to = sym c.branch-target.ensures ∙ ap target_of c.in_To-target.is in
+    sym (report_no_lamp c.args.file.now opened c.args.state c.args.sensed below branches
     (ap (moves_on (tables_of c.args.file.now)) (sym c.plan_action-action.ensures) ∙ sym c.moves_on.ensures ∙ c.if-not-moves_on.false) c.if-lamps-eq0.true)
 
 pub returns : goal.returns
@@ -75,6 +75,6 @@ returns c =
     let states : c.in-Job.job.states ≡ (tables_of c.args.file.now).states = states_are c.args.file.now c.in-Job.job opened in
     let below_job : c.args.state.state.0 < c.in-Job.job.states = omega (arith, c.if-job-from.false, c.if-from-job.false) in
     let below : c.args.state.state.0 < (tables_of c.args.file.now).states = omega (arith, states, below_job) in
-    let branches : (tables_of c.args.file.now).target c.args.state.state c.args.res ≡ some c.in_To-target.to = sym c.branch-target.ensures ∙ ap target_of c.in_To-target.is in
-    sym (report_passes c.args.file.now opened c.args.state c.args.res below branches
+    let branches : (tables_of c.args.file.now).target c.args.state.state c.args.sensed ≡ some c.in_To-target.to = sym c.branch-target.ensures ∙ ap target_of c.in_To-target.is in
+    sym (report_passes c.args.file.now opened c.args.state c.args.sensed below branches
     (ap (moves_on (tables_of c.args.file.now)) (sym c.plan_action-action.ensures) ∙ sym c.moves_on.ensures ∙ c.if-not-moves_on.false) (omega (arith, c.if-lamps-eq0.false)))

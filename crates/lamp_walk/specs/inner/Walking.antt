@@ -23,6 +23,6 @@ abbrev pub walk_of : Walked → Walk
 walk_of (walked.Ended x k) = ended x k
 walk_of (walked.Arrived q w k) = arrived (pair q w) k
 
--- The ending once S-as-W steps are counted at a lamp: state S is judged, and any other state circles.
+-- The ending once S·W steps are counted at a lamp: state S is judged, and any other state circles.
 abbrev pub spent_ending : Tables → ProgramState → WorldState → ℕ → Ending
 spent_ending t q w column = cond (is_final t q) (judged t w column) (Failure Circles)

@@ -8,7 +8,7 @@ use Rattle.world_cells.proofs.claim_cells.Given as goal
 
 abbrev pub invariant-loop-i : goal.invariant-loop-i
 invariant-loop-i l =
-    Claimed l.initial.part l.part l.first l.i l.next.0 l.res × (l.first ≤ l.i) × (l.i ≤ l.end)
+    Claimed l.initial.part l.part l.first l.i l.next.0 l.sensed × (l.first ≤ l.i) × (l.i ≤ l.end)
 
 -- proposed from the loop's first test
 abbrev pub decreases-loop-i : goal.decreases-loop-i
