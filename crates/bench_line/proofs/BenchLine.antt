@@ -28,9 +28,9 @@ judged_by_search s v opened e =
       right = subst (Right (tables_of s)) e (verdict_right (tables_of s) (well_formed s (head s) opened));
     }
 
-pub bench_line_lem : BenchLine
+pub bench_line : BenchLine
 unfolding blocks plan_bytes bench_job G G_unflagged G_circling G_no_branch G_final G_test_first G_five columns kinds_of_ends lamp_column refusal answer_by some_below ranges_wrong number_wrong place_wrong length_wrong reading_of act walk along own_steps pair_number pair_of fate ends_from met tried end_from lowest_from members_from kinds_from groups_from verdict_of
-bench_line_lem =
+bench_line =
     record {
       empty_line = refl;
       sound_lamp = refl;
@@ -44,5 +44,5 @@ bench_line_lem =
       final_first = record { judged = judged_by_search G_final _ refl refl; runs = refl };
       final_at_end = refl;
       test_first = record { judged = judged_by_search G_test_first _ refl refl; runs = refl };
-      five_states_lem = record { judged = judged_by_search G_five _ refl refl; runs = refl };
+      five_states = record { judged = judged_by_search G_five _ refl refl; runs = refl };
     }

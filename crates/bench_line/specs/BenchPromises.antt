@@ -39,4 +39,4 @@ pub record BenchLine : Type 0 where
   pub final_first : FailsOn G_final GoalFalse (1 ∷ []) 0
   pub final_at_end : limited 0 (run_on G_final []) ≡ within Goal 0
   pub test_first : FailsOn G_test_first NotLegal [] 0
-  pub five_states_lem : FailsOn G_five NoBranch (1 ∷ 1 ∷ []) 3
+  pub five_states : FailsOn G_five NoBranch (1 ∷ 1 ∷ []) 3

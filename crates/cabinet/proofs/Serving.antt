@@ -81,6 +81,6 @@ module _ (bytes : List ℕ) where
         T* (lamp_theory (tables_of bytes)) (plan_of (tables_of bytes)) ls q s (final (tables_of bytes)) s' →
         WithinJob (tables_of bytes) q s → Serves (machine_at q s) ls (machine_at (final (tables_of bytes)) s')
     serves_execution {s' = s'} a p =
-        let at_end_lem = serves_no_step (machine_at (final (tables_of bytes)) s')
+        let at_end = serves_no_step (machine_at (final (tables_of bytes)) s')
         (action_ended bytes opened (machine_at (final (tables_of bytes)) s') refl) in
-        rw append-nil at (serves_before a p [] at_end_lem)
+        rw append-nil at (serves_before a p [] at_end)

@@ -8,7 +8,7 @@ use row_cases::reading::{least, read_eight, read_four, read_two};
 use std::io;
 use std::io::Read;
 
-// A size of at most `most`.
+// A size of at most `most`. It fails where a read of the row does.
 fn read_size(rows: &mut impl Read, most: usize) -> io::Result<usize>
     ensures { IfOk result (λ size. size ≤ most) }
 {

@@ -126,8 +126,8 @@ module _ (t : Tables) (wf : WellFormed t) where
     -- No line of up to that many lamps fails exactly when the execution reaches the goal on each of them.
     none_goal : NoneUpTo t longest ↔ GoalUpTo t longest
     none_goal = (
-      λ none_fails_lem start line beginning few.
-          ⊎_elim (λ goal. goal) (λ (kind, d). absurd (none_fails_lem kind start line few d)) (goal_or_fails t wf start line beginning),
+      λ none_fails start line beginning few.
+          ⊎_elim (λ goal. goal) (λ (kind, d). absurd (none_fails kind start line few d)) (goal_or_fails t wf start line beginning),
       λ good kind start line few d. goal_not_fails t wf kind start line (good start line d.beginning few) d,
     )
 
@@ -187,9 +187,9 @@ none_exactly s longest r before after not_refused checked = go r (rw not_refused
     go (short.Failed f) right = (
       λ is. absurd (let z : ◌≡◌ {A = ℕ} 0 1 = cc in omega arith),
       λ good.
-          let none_fails_lem = (none_goal (tables_of s) wf longest).1 good in
+          let none_fails = (none_goal (tables_of s) wf longest).1 good in
           let d = right.failed_right in
-          absurd (none_fails_lem f.kind f.start _ (omega (arith, right.up_to, line_size (tables_of s) wf d)) d.right.fails),
+          absurd (none_fails f.kind f.start _ (omega (arith, right.up_to, line_size (tables_of s) wf d)) d.right.fails),
     )
     go (short.Refused number) right = absurd right
 
@@ -198,8 +198,8 @@ goal_up_to :
     (s : List ℕ) (longest n : ℕ) (before after : Lent) → CheckedUpTo s longest (short.NoneUpTo n) before after →
     Opened s (head s) × GoalUpTo (tables_of s) longest
 goal_up_to s longest n before after checked =
-    let (opened, none_fails_lem) = none_means s before after longest n checked in
-    (opened, (none_goal (tables_of s) (well_formed s (head s) opened) longest).0 none_fails_lem)
+    let (opened, none_fails) = none_means s before after longest n checked in
+    (opened, (none_goal (tables_of s) (well_formed s (head s) opened) longest).0 none_fails)
 
 pub none_runs : NoneRuns
 none_runs s longest n before after checked small start line beginning few =
@@ -215,5 +215,5 @@ none_served s longest n before after checked small start line beginning few =
 
 pub none_far_enough : FarEnough
 none_far_enough s longest n before after checked far =
-    let (opened, none_fails_lem) = none_means s before after longest n checked in
-    far_enough (tables_of s) (well_formed s (head s) opened) longest far none_fails_lem
+    let (opened, none_fails) = none_means s before after longest n checked in
+    far_enough (tables_of s) (well_formed s (head s) opened) longest far none_fails

@@ -3,7 +3,7 @@
 // says how it is used.
 #![tactic(auto)]
 
-ghost use Rattle.std.specs.Prelude.{◌≤◌, IfOk, length};
+ghost use Rattle.std.specs.Prelude.{◌≡◌, ◌≤◌, IfOk, length};
 
 use answer_line::answer_line;
 use std::env::{Env, FillError};
@@ -11,8 +11,10 @@ use std::io;
 use std::io::Read;
 
 // Reads until the input ends or the buffer is full, and answers how many bytes came. One read may give fewer bytes than the input still has.
+// It fails where a read does, and nowhere else; the buffer may then hold any bytes.
 fn read_input(input: &mut impl Read, buf: &mut [u8]) -> io::Result<usize>
-    ensures { IfOk result (λ size. size ≤ length buf.new) }
+    ensures size { IfOk result (λ size. size ≤ length buf.new) }
+    ensures kept { length buf.new ≡ length buf.old }
 {
     let mut size = 0;
     while size < buf.len() {

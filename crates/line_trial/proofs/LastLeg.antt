@@ -21,7 +21,7 @@ use Rattle.line_trial.specs.declared.Leg.{Leg}
 use Rattle.line_trial.specs.declared.Leg.TheVariants.{Nowhere, From}
 use Rattle.working_list.specs.inner.Placing.{unpacked}
 use Rattle.working_list.specs.inner.Listing.{table, Listed}
-use Rattle.line_trial.specs.inner.Trials.{HasMember, going_at_lamp, at_end_lem, Goes, Begins}
+use Rattle.line_trial.specs.inner.Trials.{HasMember, going_at_lamp, going_at_end, Goes, Begins}
 use Rattle.working_list.proofs.EntryLaws.{entries_node}
 use Rattle.working_list.proofs.ListLaws.{count_fits}
 
@@ -40,7 +40,7 @@ module _ {t : Tables} {E : List Entry} {member kind end : ℕ} (none : kind ≡ 
         so = record {
           range = start_in_range t wf (world_state member) (sym e);
           column_range = end_column_in t.ends t.kinds end (up_to_last_end t.ends end is_end);
-          going = at_end_lem refl (empty_line_tried E member kind none t ∙ ap (at_start t E member) (sym e));
+          going = going_at_end refl (empty_line_tried E member kind none t ∙ ap (at_start t E member) (sym e));
         };
       }
 

@@ -44,7 +44,7 @@ module _
 
 -- No end is below the lowest.
 pub none_below : {t : Tables} {E : List Entry} {member kind : ℕ} → TriedBelow t E member kind 0
-none_below = record { none_fails_lem = λ failure e below. absurd (omega arith); some_new = λ later. absurd (omega arith) }
+none_below = record { none_fails = λ failure e below. absurd (omega arith); some_new = λ later. absurd (omega arith) }
 
 -- It is no new pair.
 abbrev pub NotNew : Tried → Type 0
@@ -85,4 +85,4 @@ module _
 
         go : (ends : AtEnds) → tried t E member kind ≡ visited y false ends → EndsSay t y ends → tried t E member kind ≡ finds y
         go good f say = f
-        go (bad e failure) f say = absurd (so_far.tried_below.none_fails_lem failure e (omega (arith, say.is_end)) f)
+        go (bad e failure) f say = absurd (so_far.tried_below.none_fails failure e (omega (arith, say.is_end)) f)

@@ -36,7 +36,7 @@ use Rattle.check_laws.proofs.FateLaws.{fate_of_pair}
 use Rattle.check_laws.proofs.Ends.{EndsSay, ends_say}
 use Rattle.line_trial.specs.declared.Tried.TheVariants as tried_as
 use Rattle.working_list.specs.inner.Listing.{table, Listed}
-use Rattle.line_trial.specs.inner.Trials.{Ready, Going, going_at_lamp, at_end_lem, Goes, TriedBelow, EndsSoFar, TriesEnd}
+use Rattle.line_trial.specs.inner.Trials.{Ready, Going, going_at_lamp, going_at_end, Goes, TriedBelow, EndsSoFar, TriesEnd}
 use Rattle.job_file.proofs.WellFormed.{well_formed_by}
 
 -- ---- the job
@@ -135,17 +135,17 @@ module _
   pub bit_in_words : y < length words * 64
   bit_in_words = omega (arith, y_bound, trying.listed.bits_room)
 
-  module _ {x : ℕ} {b : Bool} (is_number : x ≡ y) (is_met_lem : b ≡ (eqb column 0 && bit_at words x)) where
+  module _ {x : ℕ} {b : Bool} (is_number : x ≡ y) (is_met : b ≡ (eqb column 0 && bit_at words x)) where
     -- The line is at the lowest end, with a pair that was met: nothing is new.
     pub tries_met : b ≡ true → TriesEnd t E member kind end words tried_as.Nothing memory
     tries_met yes_met = record { so = go trying.goes.going; remembers = trying.ready.remembers }
       where
         both : (eqb column 0 ≡ true) × (bit_at words x ≡ true)
-        both = (and-eq-true_iff (eqb column 0) (bit_at words x)).0 (sym is_met_lem ∙ yes_met)
+        both = (and-eq-true_iff (eqb column 0) (bit_at words x)).0 (sym is_met ∙ yes_met)
 
         go : GoingOn → trial ≡ quiet
         go (going_at_lamp after f) = let lowest = eqb-true column 0 both.0 in absurd (omega arith)
-        go (at_end_lem is f) =
+        go (going_at_end is f) =
             f ∙ ap (λ (m : Bool). visited y m (at_ends t y)) (sym bit_is ∙ ap (bit_at words) (sym is_number) ∙ both.1)
 
     module _ (not_met : b ≡ false) {r : Fate} {memory' : List ℕ} (looked : LookedUp t (pair state world) column r memory') where
@@ -160,7 +160,7 @@ module _
           by : Dec (column ≡ 0) → met E y ≡ false
           by (yes lowest) =
               sym bit_is ∙ ap (bit_at words) (sym is_number)
-              ∙ ap (λ (m : Bool). m && bit_at words x) (sym (eq-eqb column 0 lowest)) ∙ sym is_met_lem ∙ not_met
+              ∙ ap (λ (m : Bool). m && bit_at words x) (sym (eq-eqb column 0 lowest)) ∙ sym is_met ∙ not_met
           by (no later) = known (met E y) refl (omega arith)
 
       visits : column ≡ end → trial ≡ visit t E y → trial ≡ visited y false (at_ends t y)
@@ -178,7 +178,7 @@ module _
           -- A failure at a lamp is one with the lowest end, which is tried first.
           lowest : Dec (end ≡ 0) → trial ≡ fails_at failure 0 → trial ≡ fails_at failure end
           lowest (yes is) f = rw is f
-          lowest (no later) f = absurd (trying.below.none_fails_lem failure 0 (omega arith) f)
+          lowest (no later) f = absurd (trying.below.none_fails failure 0 (omega arith) f)
 
           -- The lowest end at which the pair fails is this one.
           this_end : column ≡ end → (ends : AtEnds) → trial ≡ visited y false ends → EndsSay t y ends → trial ≡ fails_at failure end
@@ -187,7 +187,7 @@ module _
           this_end is (bad e' failure') f say = by (dec_lt e' end) (dec_lt end e')
             where
               by : Dec (e' < end) → Dec (end < e') → trial ≡ fails_at failure end
-              by (yes lower) d = absurd (trying.below.none_fails_lem failure' e' lower f)
+              by (yes lower) d = absurd (trying.below.none_fails failure' e' lower f)
               by (no l) (yes higher) =
                   absurd (say.lowest column (kind_number failure) (omega arith) (failure, fails, refl))
               by (no l) (no h) =
@@ -199,7 +199,7 @@ module _
 
           go : GoingOn → trial ≡ fails_at failure end
           go (going_at_lamp after f) = lowest (ℕ_discrete end 0) (f ∙ ap (at_lamp t E) fails)
-          go (at_end_lem is f) = this_end is (at_ends t y) (visits is f) (ends_say t y)
+          go (going_at_end is f) = this_end is (at_ends t y) (visits is f) (ends_say t y)
 
       -- Its fate is not a failure, and the line is at its end: the pair is new, and does not fail with this end.
       pub tries_ending :
@@ -224,17 +224,17 @@ module _
           up_to_here : trial ≡ visited y false (at_ends t y) → TriedBelow t E member kind (end + 1)
           up_to_here f =
               record {
-                none_fails_lem = λ failure e below. by failure e below (ℕ_discrete e end);
+                none_fails = λ failure e below. by failure e below (ℕ_discrete e end);
                 some_new = λ later. not_old (at_ends t y) f;
               }
             where
               by : (failure : FailureKind) (e : ℕ) → e < end + 1 → Dec (e ≡ end) → trial ≢ fails_at failure e
               by failure e below (yes same) = rw same (not_this (at_ends t y) f (ends_say t y) failure)
-              by failure e below (no other) = trying.below.none_fails_lem failure e (omega arith)
+              by failure e below (no other) = trying.below.none_fails failure e (omega arith)
 
           go : GoingOn → EndsSoFar t E member kind end words (pair state world)
           go (going_at_lamp after f) = absurd (omega (arith, trying.is_end))
-          go (at_end_lem is f) =
+          go (going_at_end is f) =
               record {
                 range = trying.goes.range;
                 unmarked = bit_is ∙ new_here is f;
@@ -251,7 +251,7 @@ module _
       where
         go : GoingOn → trial ≡ quiet
         go (going_at_lamp after f) = f ∙ ap (at_lamp t E) (fate_found looked trying.goes.range ∙ succeeds_then t.worlds r h k)
-        go (at_end_lem is f) = absurd (lamp is)
+        go (going_at_end is f) = absurd (lamp is)
 
     -- It goes from a lamp to its end.
     pub passes_lamp : t.ends < column
@@ -259,7 +259,7 @@ module _
       where
         go : GoingOn → t.ends < column
         go (going_at_lamp after f) = after
-        go (at_end_lem is f) = absurd (lamp is)
+        go (going_at_end is f) = absurd (lamp is)
 
     -- The walk there arrives with a pair: the line goes on with that pair, at its end.
     pub tries_on :
@@ -280,6 +280,6 @@ module _
       where
         go : GoingOn → Going t E member kind end (pair_number t.worlds (pair state' world')) end
         go (going_at_lamp after f) =
-            at_end_lem refl
+            going_at_end refl
             (f ∙ ap (at_lamp t E) (fate_found looked trying.goes.range ∙ ap (λ (g : Fate). fate_of t.worlds (walk_to g)) e))
-        go (at_end_lem is f) = absurd (lamp is)
+        go (going_at_end is f) = absurd (lamp is)

@@ -122,9 +122,9 @@ module _ (t : Tables) where
           {w : WorldState} {c : ℕ} {rest : Line} → NextCandidates t From l w c → Fits t rest → column t rest ≡ c →
           (b : Bool) → moves_on t (action_of l) ≡ b → LeadsTo t (log ++ (l ∷ [])) q' w rest
       next_led_on n fits is_column true moving =
-          let going_at_lamp : ¬ (n.at < kinds_of_ends t.ends) =
+          let at_lamp : ¬ (n.at < kinds_of_ends t.ends) =
           λ is_end. none_in_empty _ _ (wf.formed.end_stays (action_of l) n.world n.at moving is_end) n.leads in
-          let before = lamp_before t fits (follows.at_column n.candidate) going_at_lamp in
+          let before = lamp_before t fits (follows.at_column n.candidate) at_lamp in
           next_led n.candidate n.leads before.fits before.is_column (rw moving (sym before.is_rest))
       next_led_on n fits is_column false staying =
           next_led n.candidate n.leads fits (is_column ∙ n.stays staying) (rw staying)

@@ -1,6 +1,6 @@
 // A row is read piece by piece, in the order in which tools/case_input writes it: numbers, and fields, which are lists of bytes. What reads a row fails
-// where a read of its input does.
-ghost use Rattle.std.specs.Prelude.{◌≤◌, IfOk, length};
+// where a read of its input does, and nowhere else; a buffer may then hold any bytes, as many as before.
+ghost use Rattle.std.specs.Prelude.{◌≡◌, ◌≤◌, IfOk, length};
 
 use crate::printing::print_text;
 use std::io;
@@ -67,7 +67,8 @@ fn run_byte(
 // A run, which is a piece of bytes repeated up to a size: it is written from a place on, as far as the buffer goes. Answers where it ends.
 fn read_run(rows: &mut impl Read, buffer: &mut [u8], from: usize) -> io::Result<usize>
     requires { from ≤ length buffer.old }
-    ensures { IfOk result (λ end. end ≤ length buffer.new) }
+    ensures end { IfOk result (λ end. end ≤ length buffer.new) }
+    ensures kept { length buffer.new ≡ length buffer.old }
 {
     let piece = read_two(rows)? as usize;
     let size = least(read_four(rows)? as usize, buffer.len() - from);
@@ -80,7 +81,8 @@ fn read_run(rows: &mut impl Read, buffer: &mut [u8], from: usize) -> io::Result<
 
 // A field, which is a list of runs: it is written to the front of the buffer. Answers how many bytes it has.
 pub fn read_field(rows: &mut impl Read, buffer: &mut [u8]) -> io::Result<usize>
-    ensures { IfOk result (λ size. size ≤ length buffer.new) }
+    ensures size { IfOk result (λ size. size ≤ length buffer.new) }
+    ensures kept { length buffer.new ≡ length buffer.old }
 {
     let runs = read_two(rows)?;
     let mut size = 0;

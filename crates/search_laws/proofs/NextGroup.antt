@@ -77,8 +77,8 @@ module _ {g : Graph} {E : List Entry} {a b : ℕ} (inv : Invariant g E a b (g.ki
     all_done i c l kc = inr (omega arith, inl (omega (arith, kc.high)))
 
     -- No line fails.
-    pub none_fails_lem : (s : ℕ) (l : List ℕ) (e f : ℕ) → ¬ (FailsFrom g s l e f)
-    none_fails_lem s l e f d =
+    pub none_fails : (s : ℕ) (l : List ℕ) (e f : ℕ) → ¬ (FailsFrom g s l e f)
+    none_fails s l e f d =
         go (fails_open g E (IsTried a b (g.kinds + 1) a) (tried? a b (g.kinds + 1) a) inv.covers s l e f d)
       where
         go : Open g E (IsTried a b (g.kinds + 1) a) s l e f → ⊥

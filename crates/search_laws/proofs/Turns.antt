@@ -21,7 +21,7 @@ use Rattle.search_laws.proofs.Invariant.{Invariant, group_in_table}
 use Rattle.search_laws.proofs.Groups.{Marks, Marked, marked_grown, group_end_lem}
 use Rattle.search_laws.proofs.GroupMember.{seen, member_done, add}
 use Rattle.search_laws.proofs.GroupKind.{FailsNext, group_least, kind_done}
-use Rattle.search_laws.proofs.NextGroup.{group_done, none_fails_lem, reached_known}
+use Rattle.search_laws.proofs.NextGroup.{group_done, none_fails, reached_known}
 use Rattle.search_laws.proofs.FirstFailure.{First}
 
 -- Of two entries with the same lamps, the later has the higher start.
@@ -177,7 +177,7 @@ module _ {g : Graph} {E : List Entry} {a b : ℕ} (at : At g E a b (g.kinds + 1)
   module _ (end : length E ≤ b) where
     -- There is no further group: no line fails.
     pub accepted : (s : ℕ) (l : List ℕ) (e f : ℕ) → ¬ (FailsFrom g s l e f)
-    accepted = none_fails_lem at.inv end
+    accepted = none_fails at.inv end
 
     -- There is no further group: every node that is reached is in the table.
     pub reached_in_table : {s x : ℕ} {p : List ℕ} → Reach g s p x → (j : ℕ) × (j < length E) × (node E j ≡ x)

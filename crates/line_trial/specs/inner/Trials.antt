@@ -34,7 +34,7 @@ pub record HasMember (t : Tables) (n member kind : ℕ) : Type 0 where
 -- Where the line goes on with the pair y: at its last lamp, or at its end.
 pub data Going (t : Tables) (E : List Entry) (member kind end y column : ℕ) : Type 0 where
   going_at_lamp : t.ends < column → tried t E member kind ≡ at_lamp t E (fate t y column) → Going t E member kind end y column
-  at_end_lem : column ≡ end → tried t E member kind ≡ visit t E y → Going t E member kind end y column
+  going_at_end : column ≡ end → tried t E member kind ≡ visit t E y → Going t E member kind end y column
 
 -- The line goes on so with the pair p, which is one of the tables.
 pub record Goes (t : Tables) (E : List Entry) (member kind end : ℕ) (p : Pair) (column : ℕ) : Type 0 where
@@ -53,7 +53,7 @@ pub record Begins (t : Tables) (E : List Entry) (member kind end : ℕ) (r : Leg
 
 -- The lower ends were tried: the line fails with none of them, and if there is one, the pair with which it reaches its end is new.
 pub record TriedBelow (t : Tables) (E : List Entry) (member kind end : ℕ) : Type 0 where
-  pub none_fails_lem : (failure : FailureKind) (e : ℕ) → e < end → tried t E member kind ≢ fails_at failure e
+  pub none_fails : (failure : FailureKind) (e : ℕ) → e < end → tried t E member kind ≢ fails_at failure e
   pub some_new : 0 < end → tried t E member kind ≢ quiet
 
 -- The line reaches its end with a pair that was not met before, and fails with none of the ends up to this one.
