@@ -43,6 +43,12 @@ module _ {counts values : List ℕ} {i world : ℕ} (before : Numbered counts va
       let positive = suffix_positive counts (suc i) (omega arith) in
       omega (arith, next, mul-le-mul_left {m = 1} {n = world_count (drop (suc i) counts)} (world * get_or counts i 0 + value) positive, mul-one (world * get_or counts i 0 + value))
 
+  -- So it fits in a byte if there are at most 64 world states.
+  pub stays_below_64 : world_count counts ≤ 64 → world * get_or counts i 0 + value ≤ 63
+  stays_below_64 few =
+      let below = (worlds_are_values counts).has_number values right in
+      omega (arith, stays_small)
+
 pub numbered_done : {counts values : List ℕ} {i world : ℕ} → Numbered counts values i world → length counts ≤ i → world ≡ world_number counts values
 unfolding world_count world_number
 numbered_done {counts} {values} {i} {world} before end =

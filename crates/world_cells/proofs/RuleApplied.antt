@@ -118,6 +118,10 @@ module _ {s : List ℕ} {n : Sizes} {i : ℕ} (this : RuleOf s n i) where
     pub rule_bytes_in : at + rule_size s ≤ length s
     rule_bytes_in = omega (arith, rule_in_file)
 
+    -- The wanted values, as the code takes them, are one for each fluent.
+    pub wanted_long : {wanted : List ℕ} → wanted ≡ fluent_bytes s (at + 3) → length wanted ≡ fluents s
+    wanted_long wanted_are = rw wanted_are (fluent_bytes_length s (at + 3) (omega (arith, rule_bytes_in)))
+
     -- Its cells lie in the part, which has at most 16,384 cells.
     pub rule_cells_in : (world : ℕ) → world < n.worlds → byte s (at + 2) < 256 →
         (first_column n (byte s (at + 2)) ≤ columns_end n (byte s (at + 2)))

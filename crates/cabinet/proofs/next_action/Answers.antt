@@ -1,9 +1,6 @@
-use Rattle.std.proofs.Common.{◌≡◌}
-use Rattle.job_layout.specs.JobTables.{tables_of}
 use Rattle.job_file.specs.Reading.{Opened}
-use mathlib.Core.Path.{◌≡◌, sym, ap, ◌∙◌}
+use mathlib.Core.Path.{sym, ap, ◌∙◌}
 use native.Mathlib.Omega.{arith}
-use Rattle.job_layout.specs.JobTables.{tables_of}
 use Rattle.job_file.specs.Reading.{Opened}
 use Rattle.job_file.proofs.Opening.{reading_refused}
 use Rattle.job_tables.proofs.Ranges.{states_are}
@@ -21,18 +18,17 @@ returns-in_default c =
 pub returns-then-job-state : goal.returns-then-job-state
 returns-then-job-state c =
     let opened : Opened c.args.file.now c.in-Job.job = sym c.read_job-reading.ensures ∙ c.in-Job.is in
-    let states : c.in-Job.job.states ≡ (tables_of c.args.file.now).states = states_are c.args.file.now c.in-Job.job opened in
-    sym (action_above c.args.file.now opened c.args.state (omega (arith, states, c.if-job-state.true)))
+    sym (action_above c.args.file.now opened c.args.state (omega (arith, states_are c.args.file.now c.in-Job.job opened, c.if-job-state.true)))
 
 pub returns-then-state-job : goal.returns-then-state-job
 returns-then-state-job c =
     let opened : Opened c.args.file.now c.in-Job.job = sym c.read_job-reading.ensures ∙ c.in-Job.is in
-    let states : c.in-Job.job.states ≡ (tables_of c.args.file.now).states = states_are c.args.file.now c.in-Job.job opened in
-    sym (action_ended c.args.file.now opened c.args.state (c.if-state-job.true ∙ states))
+    sym (action_ended c.args.file.now opened c.args.state (c.if-state-job.true ∙ states_are c.args.file.now c.in-Job.job opened))
 
 pub returns : goal.returns
 returns c =
     let opened : Opened c.args.file.now c.in-Job.job = sym c.read_job-reading.ensures ∙ c.in-Job.is in
-    let states : c.in-Job.job.states ≡ (tables_of c.args.file.now).states = states_are c.args.file.now c.in-Job.job opened in
     ap Action c.plan_action.ensures
-    ∙ sym (action_acts c.args.file.now opened c.args.state (omega (arith, states, c.if-job-state.false, c.if-state-job.false)))
+    ∙ sym
+    (action_acts c.args.file.now opened c.args.state
+    (omega (arith, states_are c.args.file.now c.in-Job.job opened, c.if-job-state.false, c.if-state-job.false)))

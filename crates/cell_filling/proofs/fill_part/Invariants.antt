@@ -9,7 +9,6 @@ abbrev pub invariant-loop-w : goal.invariant-loop-w
 invariant-loop-w l =
     PartFilled l.rules l.sizes l.w l.part
 
--- proposed from the loop's first test
 abbrev pub decreases-loop-w : goal.decreases-loop-w
 decreases-loop-w l =
     l.worlds - l.w

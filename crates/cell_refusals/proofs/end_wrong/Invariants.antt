@@ -15,6 +15,5 @@ abbrev pub invariant-loop-a : goal.invariant-loop-a
 invariant-loop-a l =
     NoneYet (moves_on_at_end l.file l.job) l.actions l.a
 
--- proposed from the loop's first test
 abbrev pub decreases-loop-a : goal.decreases-loop-a
 decreases-loop-a l = l.actions - l.a

@@ -14,6 +14,5 @@ abbrev pub invariant-loop-w : goal.invariant-loop-w
 invariant-loop-w l =
     NoneYet (legal_at l.file l.job l.action l.end) l.worlds l.w
 
--- proposed from the loop's first test
 abbrev pub decreases-loop-w : goal.decreases-loop-w
 decreases-loop-w l = l.worlds - l.w

@@ -15,6 +15,5 @@ abbrev pub invariant-loop-end : goal.invariant-loop-end
 invariant-loop-end l =
     (l.count ≤ 16) × NoneYet (legal_at_end l.file l.job l.action) l.count l.end
 
--- proposed from the loop's first test
 abbrev pub decreases-loop-end : goal.decreases-loop-end
 decreases-loop-end l = l.count - l.end

@@ -12,7 +12,6 @@ abbrev pub invariant-loop-k : goal.invariant-loop-k
 invariant-loop-k l =
     Walking l.file l.job l.column (pair l.initial.q l.initial.w) l.k (pair l.q l.w)
 
--- proposed from the loop's first test
 abbrev pub decreases-loop-k : goal.decreases-loop-k
 decreases-loop-k l =
     l.most - l.k

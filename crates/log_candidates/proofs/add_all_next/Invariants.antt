@@ -12,7 +12,6 @@ abbrev pub invariant-loop-rest : goal.invariant-loop-rest
 invariant-loop-rest l =
     Gathering (tables_of l.file) (label_of l.entry) l.column l.set l.to l.rest l.sum
 
--- proposed from the loop's first test
 abbrev pub decreases-loop-rest : goal.decreases-loop-rest
 decreases-loop-rest l =
     l.rest

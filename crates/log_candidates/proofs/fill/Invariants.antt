@@ -14,7 +14,6 @@ abbrev pub invariant-loop-c : goal.invariant-loop-c
 invariant-loop-c l =
     (l.c ≤ length l.initial.sets) × (length l.sets ≡ length l.initial.sets) × Filled l.sets l.set l.c
 
--- proposed from the loop's first test
 abbrev pub decreases-loop-c : goal.decreases-loop-c
 decreases-loop-c l =
     length l.initial.sets - l.c

@@ -13,7 +13,6 @@ abbrev pub invariant-loop-w : goal.invariant-loop-w
 invariant-loop-w l =
     (l.w ≤ l.job.worlds) × Adds (Gathered (StartAt (tables_of l.file)) l.w) 0 l.set
 
--- proposed from the loop's first test
 abbrev pub decreases-loop-w : goal.decreases-loop-w
 decreases-loop-w l =
     l.job.worlds - l.w

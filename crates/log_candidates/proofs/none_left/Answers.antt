@@ -4,7 +4,7 @@ use Rattle.log_candidates.proofs.none_left.Goals as goal
 
 pub returns-then-sets-c-ne0 : goal.returns-then-sets-c-ne0
 returns-then-sets-c-ne0 c =
-    some_candidate_left _ (omega arith) c.column_count-columns.ensures (c.shared_slice_known-in-loop-c-1.given _).fits c.if-sets-c-ne0.true
+    some_candidate_left _ (omega arith) c.column_count-columns.ensures (c.type_inv.sets _).fits c.if-sets-c-ne0.true
 
 pub returns : goal.returns
 returns c =

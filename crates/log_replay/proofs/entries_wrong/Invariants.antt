@@ -14,7 +14,6 @@ abbrev pub invariant-loop-i : goal.invariant-loop-i
 invariant-loop-i l =
     NoneYet (entry_wrong l.actions l.results l.log) (entry_count l.log) l.i
 
--- proposed from the loop's first test
 abbrev pub decreases-loop-i : goal.decreases-loop-i
 decreases-loop-i l =
     l.entries - l.i

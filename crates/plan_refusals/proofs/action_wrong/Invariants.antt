@@ -14,6 +14,5 @@ abbrev pub invariant-loop-q : goal.invariant-loop-q
 invariant-loop-q l =
     NoneYet (action_wrong_at l.file l.job) l.states l.q
 
--- proposed from the loop's first test
 abbrev pub decreases-loop-q : goal.decreases-loop-q
 decreases-loop-q l = l.states - l.q

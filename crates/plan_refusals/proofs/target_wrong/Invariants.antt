@@ -15,6 +15,5 @@ abbrev pub invariant-loop-q : goal.invariant-loop-q
 invariant-loop-q l =
     NoneYet (row_wrong l.file l.job) l.states l.q
 
--- proposed from the loop's first test
 abbrev pub decreases-loop-q : goal.decreases-loop-q
 decreases-loop-q l = l.states - l.q

@@ -6,7 +6,7 @@ use Rattle.pair_bits.proofs.Sums.{sum_le}
 use Rattle.line_trial.proofs.TryingEnds.{ready_tables}
 use Rattle.plan_search.proofs.Sweeps.{sweeping_begins, sweeping_on, sweeping_fails, sweeping_keeps}
 use Rattle.plan_search.proofs.Sweeps.{members_few, sweeping_lowest, sweeping_done, sweeping_failed}
-use Rattle.plan_search.proofs.SearchLoops.{AtGroup, Enters, search_begins, kind_few, group_members, kind_held, kind_failed}
+use Rattle.plan_search.proofs.SearchLoops.{Enters, search_begins, kind_few, group_members, kind_held, kind_failed}
 use Rattle.plan_search.proofs.SearchLoops.{kinds_through, lamps_small, enters_layer, enters_next, through, stopped}
 use Rattle.plan_search.proofs.SearchLoops.{next_held, group_some, group_begun}
 use Rattle.plan_search.proofs.search_groups.Goals as goal
@@ -77,49 +77,50 @@ loop-kind-preserved c =
 
 pub overflow_add-lamps : goal.overflow_add-lamps
 overflow_add-lamps c =
-    let at_next : let a = c.args in let s = c.search in let l = c.loop-kind in AtGroup a.file.now a.job a.longest l.memory l.list l.words l.count s.next s.layer s.lamps = kinds_through c.loop-kind.invariant.0 (omega (arith, c.loop-kind-test.false)) in
+    let at_next = kinds_through c.loop-kind.invariant.0 c.loop-kind-test.false in
     omega (arith, lamps_small at_next)
 
 pub overflow_cast-reached : goal.overflow_cast-reached
 overflow_cast-reached c =
-    let at_next : let a = c.args in let s = c.search in let l = c.loop-kind in AtGroup a.file.now a.job a.longest l.memory l.list l.words l.count s.next s.layer s.lamps = kinds_through c.loop-kind.invariant.0 (omega (arith, c.loop-kind-test.false)) in
+    let at_next = kinds_through c.loop-kind.invariant.0 c.loop-kind-test.false in
     omega (arith, sum_le c.sum_bits-reached.ensures, pairs_few (ready_tables at_next.ready))
 
+-- The group is entered, in this layer or the next.
 pub group_end-to-requires : goal.group_end-to-requires
 group_end-to-requires c =
-    let at_next : let a = c.args in let s = c.search in let l = c.loop-kind in AtGroup a.file.now a.job a.longest l.memory l.list l.words l.count s.next s.layer s.lamps = kinds_through c.loop-kind.invariant.0 (omega (arith, c.loop-kind-test.false)) in
-    let entered : let a = c.args in let l = c.loop-kind in Enters a.file.now a.job a.longest l.memory l.list l.words l.count c.search.next c.if-next-layer.layer c.if-next-layer.lamps = let at = at_next in
+    let a = c.args in
+    let l = c.loop-kind in
+    let at = kinds_through c.loop-kind.invariant.0 c.loop-kind-test.false in
+    let enters :
+    Enters a.file.now a.job a.longest l.memory l.list l.words l.count c.search.next c.if-next-layer.layer c.if-next-layer.lamps =
     elim c.if-next-layer.branch [
       | then-next-layer+else-count-layer+else-longest-lamps w ↦
           rw (w.layer-is, w.lamps-is) (enters_next at w.if-next-layer.true w.if-count-layer.false w.if-longest-lamps.false (omega arith))
       | else-next-layer w ↦ rw (w.layer-is, w.lamps-is) (enters_layer at w.if-next-layer.false)
     ] in
-    next_held entered
+    next_held enters
+
+-- The same, where the group's end is known.
+entered : (c : goal.After-group_end-to) →
+    let a = c.args in
+    let l = c.loop-kind in
+    Enters a.file.now a.job a.longest l.memory l.list l.words l.count c.search.next c.if-next-layer.layer c.if-next-layer.lamps
+entered c =
+    let at = kinds_through c.loop-kind.invariant.0 c.loop-kind-test.false in
+    elim c.if-next-layer.branch [
+      | then-next-layer+else-count-layer+else-longest-lamps w ↦
+          rw (w.layer-is, w.lamps-is) (enters_next at w.if-next-layer.true w.if-count-layer.false w.if-longest-lamps.false (omega arith))
+      | else-next-layer w ↦ rw (w.layer-is, w.lamps-is) (enters_layer at w.if-next-layer.false)
+    ]
 
 pub search-smaller : goal.search-smaller
-search-smaller c =
-    let at_next : let a = c.args in let s = c.search in let l = c.loop-kind in AtGroup a.file.now a.job a.longest l.memory l.list l.words l.count s.next s.layer s.lamps = kinds_through c.loop-kind.invariant.0 (omega (arith, c.loop-kind-test.false)) in
-    let entered : let a = c.args in let l = c.loop-kind in Enters a.file.now a.job a.longest l.memory l.list l.words l.count c.search.next c.if-next-layer.layer c.if-next-layer.lamps = let at = at_next in
-    elim c.if-next-layer.branch [
-      | then-next-layer+else-count-layer+else-longest-lamps w ↦
-          rw (w.layer-is, w.lamps-is) (enters_next at w.if-next-layer.true w.if-count-layer.false w.if-longest-lamps.false (omega arith))
-      | else-next-layer w ↦ rw (w.layer-is, w.lamps-is) (enters_layer at w.if-next-layer.false)
-    ] in
-    let at = entered in
-    omega (arith, group_some at c.group_end-to.ensures, (next_held at).0, (next_held at).2)
+search-smaller c = omega (arith, group_some (entered c) c.group_end-to.ensures, (next_held (entered c)).0, (next_held (entered c)).2)
 
 pub search-preserved : goal.search-preserved
 search-preserved c =
-    let at_next : let a = c.args in let s = c.search in let l = c.loop-kind in AtGroup a.file.now a.job a.longest l.memory l.list l.words l.count s.next s.layer s.lamps = kinds_through c.loop-kind.invariant.0 (omega (arith, c.loop-kind-test.false)) in
-    let entered : let a = c.args in let l = c.loop-kind in Enters a.file.now a.job a.longest l.memory l.list l.words l.count c.search.next c.if-next-layer.layer c.if-next-layer.lamps = let at = at_next in
-    elim c.if-next-layer.branch [
-      | then-next-layer+else-count-layer+else-longest-lamps w ↦
-          rw (w.layer-is, w.lamps-is) (enters_next at w.if-next-layer.true w.if-count-layer.false w.if-longest-lamps.false (omega arith))
-      | else-next-layer w ↦ rw (w.layer-is, w.lamps-is) (enters_layer at w.if-next-layer.false)
-    ] in
     let i = c.loop-kind.invariant in
     let s = c.search.invariant in
-    (group_begun entered c.group_end-to.ensures, i.1, i.2 ∙ s.2, i.3 ∙ s.3, i.4 ∙ s.4)
+    (group_begun (entered c) c.group_end-to.ensures, i.1, i.2 ∙ s.2, i.3 ∙ s.3, i.4 ∙ s.4)
 
 pub returns-then-end-eq0 : goal.returns-then-end-eq0
 returns-then-end-eq0 c =
@@ -134,14 +135,13 @@ returns-else-clean-2 c =
 
 pub returns-then-count-layer : goal.returns-then-count-layer
 returns-then-count-layer c =
-    let at_next : let a = c.args in let s = c.search in let l = c.loop-kind in AtGroup a.file.now a.job a.longest l.memory l.list l.words l.count s.next s.layer s.lamps = kinds_through c.loop-kind.invariant.0 (omega (arith, c.loop-kind-test.false)) in
-    let at = at_next in
+    let at_next = kinds_through c.loop-kind.invariant.0 c.loop-kind-test.false in
     let end = c.if-next-layer.true in
     record {
       so =
           elim c.then-count-layer.branch [
-            | then-count-layer-via-then-count-layer w ↦ through at end c.sum_bits-reached.ensures w.if-count-layer.true
+            | then-count-layer-via-then-count-layer w ↦ through at_next end c.sum_bits-reached.ensures w.if-count-layer.true
             | then-count-layer-via-else-count-layer+then-longest-lamps w ↦
-                stopped at end c.sum_bits-reached.ensures w.if-count-layer.false w.if-longest-lamps.true (omega arith)
+                stopped at_next end c.sum_bits-reached.ensures w.if-count-layer.false w.if-longest-lamps.true (omega arith)
           ];
     }

@@ -20,7 +20,6 @@ invariant-loop-member l =
     × (length l.list ≡ length l.initial.list)
     × (length l.words ≡ length l.initial.words)
 
--- proposed from the loop's first test
 abbrev pub decreases-loop-member : goal.decreases-loop-member
 decreases-loop-member l =
     l.to - l.member
@@ -33,7 +32,6 @@ invariant-loop-kind l =
     × (length l.list ≡ length l.initial.list)
     × (length l.words ≡ length l.initial.words)
 
--- proposed from the loop's first test
 abbrev pub decreases-loop-kind : goal.decreases-loop-kind
 decreases-loop-kind l =
     l.last + 1 - l.kind

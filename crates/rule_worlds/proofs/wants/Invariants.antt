@@ -26,7 +26,6 @@ abbrev pub invariant-loop-i : goal.invariant-loop-i
 invariant-loop-i l =
     NoneYet (λ i. unwanted (get_or l.wanted i 0) (get_or l.values i 0)) (length l.wanted) l.i
 
--- proposed from the loop's first test
 abbrev pub decreases-loop-i : goal.decreases-loop-i
 decreases-loop-i l =
     length l.wanted - l.i

@@ -21,7 +21,6 @@ abbrev pub invariant-loop-i : goal.invariant-loop-i
 invariant-loop-i l =
     Decoded l.counts l.initial.rest l.i l.weight l.rest l.values × (length l.values ≡ length l.initial.values)
 
--- proposed from the loop's first test
 abbrev pub decreases-loop-i : goal.decreases-loop-i
 decreases-loop-i l =
     length l.counts - l.i

@@ -19,7 +19,6 @@ abbrev pub invariant-loop-i : goal.invariant-loop-i
 invariant-loop-i l =
     NoneYet (λ i. rule_wrong l.sizes (value_counts l.rules) (rule_at l.rules i)) l.count l.i
 
--- proposed from the loop's first test
 abbrev pub decreases-loop-i : goal.decreases-loop-i
 decreases-loop-i l =
     l.count - l.i

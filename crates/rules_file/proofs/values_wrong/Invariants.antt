@@ -18,7 +18,6 @@ abbrev pub invariant-loop-i : goal.invariant-loop-i
 invariant-loop-i l =
     NoneYet (λ i. value_wrong (get_or l.counts i 0) (get_or l.values i 0)) (length l.counts) l.i
 
--- proposed from the loop's first test
 abbrev pub decreases-loop-i : goal.decreases-loop-i
 decreases-loop-i l =
     length l.counts - l.i

@@ -4,7 +4,7 @@ use Rattle.rules_file.proofs.world_count.Goals as goal
 
 pub loop-i-preserved : goal.loop-i-preserved
 loop-i-preserved c =
-    let count = c.shared_slice_known-1.given c.loop-i.i in
+    let count = c.type_inv.counts c.loop-i.i in
     multiplied_more c.loop-i.invariant (omega arith) (omega arith)
 
 pub returns : goal.returns

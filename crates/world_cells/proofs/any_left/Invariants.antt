@@ -23,7 +23,6 @@ abbrev pub invariant-loop-a : goal.invariant-loop-a
 invariant-loop-a l =
     NoneYet (λ a. some_below (width l.sizes) (λ c. undecided l.part (cell_number l.sizes a l.world.0 c))) l.actions l.a
 
--- proposed from the loop's first test
 abbrev pub decreases-loop-a : goal.decreases-loop-a
 decreases-loop-a l =
     l.actions - l.a

@@ -12,7 +12,6 @@ abbrev pub invariant-loop-c : goal.invariant-loop-c
 invariant-loop-c l =
     NoneYet (λ k. undecided l.part (l.first + k)) l.count l.c
 
--- proposed from the loop's first test
 abbrev pub decreases-loop-c : goal.decreases-loop-c
 decreases-loop-c l =
     l.count - l.c

@@ -10,7 +10,6 @@ abbrev pub invariant-loop-i : goal.invariant-loop-i
 invariant-loop-i l =
     Claimed l.initial.part l.part l.first l.i l.next.0 l.sensed × (l.first ≤ l.i) × (l.i ≤ l.end)
 
--- proposed from the loop's first test
 abbrev pub decreases-loop-i : goal.decreases-loop-i
 decreases-loop-i l =
     l.end - l.i

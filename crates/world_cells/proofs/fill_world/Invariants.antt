@@ -11,7 +11,6 @@ abbrev pub invariant-loop-i : goal.invariant-loop-i
 invariant-loop-i l =
     AppliedTo l.rules l.sizes l.world.0 l.i l.initial.part l.part
 
--- proposed from the loop's first test
 abbrev pub decreases-loop-i : goal.decreases-loop-i
 decreases-loop-i l =
     l.count - l.i

@@ -21,7 +21,9 @@ loop-i-preserved c =
     let o = c.loop-i in
     let a = c.args in
     let i< : o.i < length a.bytes.now = c.loop-i-test.true in
-    let more = subst (λ n. Wrote o.out o.next (numbers (n ∷ [])) c.put_number-next.result c.put_number-next.new.out) c.wide-n.ensures c.put_number-next.ensures.wrote in (
+    let more =
+    subst (λ n. Wrote o.out o.next (numbers (n ∷ [])) c.put_number-next.result c.put_number-next.new.out)
+    c.wide-n.ensures c.put_number-next.ensures.wrote in (
       omega arith,
       c.put_number-next.auto.out ∙ o.invariant.1,
       omega (arith, c.put_number-next.ensures.upper_bound, o.invariant.2),

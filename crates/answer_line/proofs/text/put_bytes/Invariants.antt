@@ -17,7 +17,6 @@ abbrev pub invariant-loop-i : goal.invariant-loop-i
 invariant-loop-i l =
     (l.i ≤ length l.bytes) × (length l.out ≡ length l.initial.out) × (l.next ≤ l.at + 11 * l.i) × Wrote l.initial.out l.at (numbers (take l.i l.bytes)) l.next l.out
 
--- proposed from the loop's first test
 abbrev pub decreases-loop-i : goal.decreases-loop-i
 decreases-loop-i l =
     length l.bytes - l.i

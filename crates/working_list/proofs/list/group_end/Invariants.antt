@@ -9,6 +9,5 @@ abbrev pub invariant-loop-to : goal.invariant-loop-to
 invariant-loop-to l =
     GroupSoFar l.list l.count l.from l.to
 
--- proposed from the loop's first test
 abbrev pub decreases-loop-to : goal.decreases-loop-to
 decreases-loop-to l = l.count - l.to
