@@ -1,15 +1,12 @@
 -- Laws of text that is written piece by piece, and the lengths of numbers as text.
-use mathlib.Core.Path.{◌≡◌, refl, sym, ap, ◌∙◌}
-use mathlib.Core.Bool.{Bool, true, false, cond}
-use mathlib.Core.List.{List, [], ◌∷◌, ◌++◌, append_assoc, append-nil}
-use Prim.Native.Nat.{ℕ, zero, suc, ◌+◌, ◌*◌, ◌-◌, ◌/◌, ◌%◌, ◌≤◌, ◌<◌}
-use native.Mathlib.Omega.{arith}
-use borrow.Author.Tests.{lt-ltb, le-ltb}
-use lib.Dec.{ltb}
-use lib.ListN.{length, get_or, take, set, length-append}
-use lib.Seq.{sets, take-suc, length-take-le}
+use Rattle.std.proofs.Common.{◌≡◌, refl, sym, ap, ◌∙◌, rules, Bool, true, false, cond, List, [], ◌∷◌, ◌++◌, append_assoc, append-nil, ℕ, zero, suc, ◌+◌, ◌*◌, ◌/◌, ◌%◌, ◌≤◌, ◌<◌, ◌^◌, arith, ltb, length, get_or, take, set, length-append, drop-drop, take-suc}
+use Rattle.std.proofs.lemmas.List.Edits.{sets, sets-eq}
+use Rattle.std.specs.Fmt.{decimal as std_decimal}
+use Rattle.std.proofs.lemmas.Fmt.{decimal_from_appends, decimal_step, length-decimal-le}
+use borrow.Rule.Slice.PartMut.{put_mid}
 use Rattle.answer_line.specs.AnswerLine.{decimal_by, decimal, numbers, text_line}
-use Rattle.answer_line.specs.inner.Writing.{Wrote}
+use Rattle.answer_line.specs.inner.Writing.{Wrote, Appended}
+use Rattle.answer_line.specs.declared.text.Line.{Line}
 
 -- ---- one piece after another
 
@@ -33,22 +30,38 @@ wrote_then {l} {l'} {l''} {at} {next} {next'} {xs} {ys} first second =
           ∙ sets_sets l at xs ys;
     }
 
--- ---- numbers: their digits, as `put_digits` writes them, and their lengths as text
+-- Copying a word over a part of the buffer sets its bytes there.
+pub copied : (l word part : List ℕ) (at k : ℕ) → part ≡ word → k ≡ length word → at + length word ≤ length l →
+    put_mid at k l part ≡ sets l at word
+copied l word part at k is e room =
+    rw (is, e, drop-drop, ← append_assoc) (sym (sets-eq word l at room))
 
-pub no_digits : (l : List ℕ) (at places n : ℕ) → places ≡ 0 → Wrote l at (decimal_by places n) at l
-unfolding decimal_by
-no_digits l at places n e = rw e (record { place = omega arith; content = refl })
+-- Appending one piece and then the next appends both as one text.
+pub appended_then : {a b c : Line} {xs ys : List ℕ} → Appended a xs b → Appended b ys c → Appended a (xs ++ ys) c
+appended_then first second =
+    record {
+      same = second.same ∙ first.same;
+      size = second.size ∙ first.size;
+      wrote = wrote_then first.wrote second.wrote;
+    }
 
-pub one_digit : (places n : ℕ) → (places ≡ 0 → ⊥) → n < 10 → decimal_by places n ≡ (48 + n) ∷ []
-unfolding decimal_by
-one_digit zero n some small = absurd (some refl)
-one_digit (suc places) n some small = rw (lt-ltb _ _ small)
+-- After the last piece the buffer holds the whole text.
+pub finished : {before after : Line} {text left : List ℕ} → Appended before text after →
+    (before.bytes.ghost_name ≡ after.bytes.ghost_name → left ≡ after.bytes.now) → Wrote before.bytes.now before.len text after.len left
+finished appended left_is = rw (left_is (sym appended.same)) appended.wrote
 
-pub more_digits : (places n : ℕ) → (places ≡ 0 → ⊥) → 10 ≤ n →
-    decimal_by places n ≡ decimal_by (places - 1) (n / 10) ++ ((48 + n % 10) ∷ [])
+-- ---- numbers: their digits, and their lengths as text
+
+-- `decimal` of the specification and of std are the same for a 32-bit number.
+pub decimal_same : (n : ℕ) → n < 2 ^ 32 → decimal n ≡ std_decimal n
 unfolding decimal_by
-more_digits zero n some large = absurd (some refl)
-more_digits (suc places) n some large = let e : suc places - 1 ≡ places = omega arith in rw (le-ltb _ _ large, e)
+decimal_same n fits =
+    decimal_from_appends decimal_by (search rules) 10 n (omega (arith, fits)) (length-decimal-le 10 n (omega arith) (omega (arith, fits)) (omega (arith, fits)))
+
+-- A number of two digits or more has one digit more than its tenth part.
+pub more_digits : (n : ℕ) → 10 ≤ n → n < 2 ^ 32 → length (std_decimal n) ≡ length (std_decimal (n / 10)) + 1
+more_digits n large fits =
+    ap length (decimal_step n large (omega (arith, fits))) ∙ length-append (std_decimal (n / 10)) ((48 + n % 10) ∷ [])
 
 pub length_decimal : (places n : ℕ) → length (decimal_by places n) ≤ places
 unfolding decimal_by
@@ -80,17 +93,17 @@ length_numbers (n ∷ ns) =
     let both = length-append (32 ∷ decimal n) (numbers ns) in
     omega (arith, here, rest, both)
 
--- Writing a number and then others writes the whole list of numbers.
-pub wrote_number : {l l' l'' : List ℕ} {at next next' : ℕ} (n m : ℕ) (ns : List ℕ) → m ≡ n →
-    Wrote l at (numbers (m ∷ [])) next l' → Wrote l' next (numbers ns) next' l'' → Wrote l at (numbers (n ∷ ns)) next' l''
-wrote_number n m ns e first second =
-    let joined = wrote_then first second in rw (numbers_append (n ∷ []) ns, sym e) joined
+-- Appending a number and then others appends the whole list of numbers.
+pub appended_number : {a b c : Line} (n m : ℕ) (ns : List ℕ) → m ≡ n →
+    Appended a (numbers (m ∷ [])) b → Appended b (numbers ns) c → Appended a (numbers (n ∷ ns)) c
+appended_number n m ns e first second =
+    let joined = appended_then first second in rw (numbers_append (n ∷ []) ns, sym e) joined
 
--- Writing numbers and then one more writes the list with it at its end.
-pub wrote_last : {l l' l'' : List ℕ} {at next next' : ℕ} (ns : List ℕ) (n m : ℕ) → m ≡ n →
-    Wrote l at (numbers ns) next l' → Wrote l' next (numbers (m ∷ [])) next' l'' → Wrote l at (numbers (ns ++ (n ∷ []))) next' l''
-wrote_last ns n m e first second =
-    let joined = wrote_then first second in rw (numbers_append ns (n ∷ []), sym e) joined
+-- Appending numbers and then one more appends the list with it at its end.
+pub appended_last : {a b c : Line} (ns : List ℕ) (n m : ℕ) → m ≡ n →
+    Appended a (numbers ns) b → Appended b (numbers (m ∷ [])) c → Appended a (numbers (ns ++ (n ∷ []))) c
+appended_last ns n m e first second =
+    let joined = appended_then first second in rw (numbers_append ns (n ∷ []), sym e) joined
 
 -- A number takes at most eleven bytes, and the end of the line takes one.
 pub length_line : (word ns : List ℕ) → length (text_line word ns) ≤ length word + 11 * length ns + 1
@@ -100,20 +113,20 @@ length_line word ns =
     let few = length_numbers ns in
     omega (arith, both, end, few)
 
--- ---- the steps of the loops: the next byte of a word, or the next number of a list, after those before it
+-- ---- the steps of a loop over a list: its next number, after those before it
 
-take_next : (l : List ℕ) (i : ℕ) → i < length l → take (i + 1) l ≡ take i l ++ (get_or l i 0 ∷ [])
-take_next l i i< = let e : i + 1 ≡ suc i = omega arith in ap (λ n. take n l) e ∙ take-suc l i 0 i<
+pub appended_none : (a : Line) → Appended a (numbers []) a
+unfolding numbers
+appended_none a = record { same = refl; size = refl; wrote = record { place = omega arith; content = refl } }
 
-pub next_byte : (l : List ℕ) (at i : ℕ) (word : List ℕ) → i < length word →
-    set (sets l at (take i word)) (at + i) (get_or word i 0) ≡ sets l at (take (i + 1) word)
-next_byte l at i word i< =
-    let so_far = length-take-le i word (omega (arith, i<)) in
-    let next_place : at + i ≡ at + length (take i word) = omega (arith, so_far) in
-    ap (λ n. set (sets l at (take i word)) n (get_or word i 0)) next_place
-    ∙ sets_sets l at (take i word) (get_or word i 0 ∷ [])
-    ∙ ap (sets l at) (sym (take_next word i i<))
-
-pub next_number : (ns : List ℕ) (i : ℕ) → i < length ns →
+next_number : (ns : List ℕ) (i : ℕ) → i < length ns →
     numbers (take i ns) ++ numbers (get_or ns i 0 ∷ []) ≡ numbers (take (i + 1) ns)
-next_number ns i i< = sym (numbers_append (take i ns) (get_or ns i 0 ∷ [])) ∙ ap numbers (sym (take_next ns i i<))
+next_number ns i i< =
+    let e : i + 1 ≡ suc i = omega arith in
+    sym (numbers_append (take i ns) (get_or ns i 0 ∷ [])) ∙ ap numbers (sym (ap (λ n. take n ns) e ∙ take-suc ns i 0 i<))
+
+-- Appending the first i numbers of a list and then the next appends the first i + 1.
+pub appended_next : {a b c : Line} (ns : List ℕ) (i m : ℕ) → i < length ns → m ≡ get_or ns i 0 →
+    Appended a (numbers (take i ns)) b → Appended b (numbers (m ∷ [])) c → Appended a (numbers (take (i + 1) ns)) c
+appended_next ns i m i< e first second =
+    let joined = appended_then first second in rw (← next_number ns i i<, ← e) joined

@@ -2,10 +2,11 @@
 -- `refused` and the number of the refusal; or `fails`, the failure kind, the start, the number of lamps, the kind of each lamp and last
 -- the kind of the line's end (02, (c)).
 use Rattle.std.specs.Prelude.{◌≡◌, cond, List, [], ◌∷◌, ◌++◌, ℕ, zero, suc, ◌+◌, ◌/◌, ◌%◌, ◌≤◌, ltb, length, take, drop}
-use Rattle.std.proofs.Math.Option.{Option, none, some}
+use Rattle.std.specs.Prelude.{Option, None, Some}
 use Rattle.lamp_line.specs.Tables.{Tables}
 use Rattle.lamp_line.specs.Endings.{kind_number}
-use Rattle.lamp_line.specs.Refusals.{refusal}
+use Rattle.lamp_line.specs.declared.Refusal.{Refusal}
+use Rattle.lamp_line.specs.Refusals.{refusal_number, refusal}
 use Rattle.lamp_line.specs.Check.{Verdict, accepted, failed, Right}
 use Rattle.job_layout.specs.JobTables.{tables_of}
 use Rattle.job_file.specs.Reading.{file_refusals}
@@ -41,8 +42,8 @@ abbrev pub fails_text : List ℕ
 fails_text = 102 ∷ 97 ∷ 105 ∷ 108 ∷ 115 ∷ []
 
 -- The line for a refusal.
-abbrev pub refused_line : ℕ → List ℕ
-refused_line number = text_line refused_text (number ∷ [])
+abbrev pub refused_line : Refusal → List ℕ
+refused_line because = text_line refused_text (refusal_number because ∷ [])
 
 -- The line for a verdict of the check.
 abbrev pub verdict_line : Verdict → List ℕ
@@ -51,9 +52,9 @@ verdict_line (failed kind start line) =
     text_line fails_text (kind_number kind ∷ start.0 ∷ length line.lamps ∷ (line.lamps ++ (line.end ∷ [])))
 
 -- The text is the line for the file's refusal, or else for a right verdict.
-abbrev pub PrintedBy : Option ℕ → Tables → List ℕ → Type 0
-PrintedBy (some number) t text = text ≡ refused_line number
-PrintedBy none t text = (v : Verdict) × Right t v × (text ≡ verdict_line v)
+abbrev pub PrintedBy : Option Refusal → Tables → List ℕ → Type 0
+PrintedBy (Some because) t text = text ≡ refused_line because
+PrintedBy None t text = (v : Verdict) × Right t v × (text ≡ verdict_line v)
 
 -- The line for the file with bytes s is this text. It is the only such text, since only one answer is right.
 abbrev pub Printed : List ℕ → List ℕ → Type 0

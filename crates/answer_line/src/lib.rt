@@ -10,18 +10,20 @@ ghost use Rattle.plan_check.specs.CheckAnswers.{failed_line};
 ghost use Rattle.answer_line.specs.AnswerLine.{fails_text, text_line, verdict_line, AnswerIn};
 ghost use Rattle.answer_line.specs.inner.Writing.{Wrote};
 
-use lamp_line::{FailureKind, WorldState, failure_number};
-use plan_check::{CheckAnswer, Failure, check_plan};
-use text::{put_byte, put_bytes, put_number, put_word, wide};
+use lamp_line::{FailureKind, WorldState};
+use plan_check::{CheckError, Failure, check_plan};
+use text::Line;
 
 // Writes a line of a word and a number.
 fn word_and_number(word: &[u8], n: u32, out: &mut [u8]) -> usize
     requires { length word.now + 12 ≤ length out.old }
     ensures { Wrote out.old 0 (text_line word.now (n ∷ [])) result out.new }
 {
-    let after_word = put_word(out, 0, word);
-    let after_number = put_number(out, after_word, n);
-    put_byte(out, after_number, 10)
+    let mut line = Line { bytes: out, len: 0 };
+    line.word(word);
+    line.number(n);
+    line.byte(b'\n');
+    line.len
 }
 
 // Writes the line for a failure on a line with lamps of these kinds and this kind of end.
@@ -37,13 +39,17 @@ fn failure_line(
         (text_line fails_text (kind_number kind ∷ start.0 ∷ length kinds.now ∷ (kinds.now ++ (end ∷ [])))) result
         out.new }
 {
-    let after_word = put_word(out, 0, b"fails");
-    let after_kind = put_number(out, after_word, wide(failure_number(kind)));
-    let after_start = put_number(out, after_kind, wide(start.0));
-    let after_count = put_number(out, after_start, kinds.len() as u32);
-    let after_kinds = put_bytes(out, after_count, kinds);
-    let after_end = put_number(out, after_kinds, wide(end));
-    put_byte(out, after_end, 10)
+    let mut line = Line { bytes: out, len: 0 };
+    line.word(b"fails");
+    line.number(u32::from(kind.number()));
+    line.number(u32::from(start.0));
+    line.number(kinds.len() as u32);
+    for kind in kinds {
+        line.number(u32::from(*kind));
+    }
+    line.number(u32::from(end));
+    line.byte(b'\n');
+    line.len
 }
 
 // Writes the line for a failure whose lamps are at the front of the line buffer.
@@ -67,8 +73,10 @@ pub fn answer_line(file: &[u8], out: &mut [u8; 65536]) -> usize
     let mut words = [0u64; 65];
     let answer = check_plan(file, &mut line, &mut list, &mut words);
     match answer {
-        CheckAnswer::Accepted(count) => word_and_number(b"accepted", count, out),
-        CheckAnswer::Failed(failure) => failed_line(failure, &line, out),
-        CheckAnswer::Refused(number) => word_and_number(b"refused", wide(number), out),
+        Ok(count) => word_and_number(b"accepted", count, out),
+        Err(CheckError::Failed(failure)) => failed_line(failure, &line, out),
+        Err(CheckError::Refused(refusal)) => {
+            word_and_number(b"refused", u32::from(refusal.number()), out)
+        }
     }
 }

@@ -1,76 +1,53 @@
-// Text in a buffer. Each function writes at an index and answers the index after what it wrote. They are for this crate alone: each asks
-// for room in the buffer.
-ghost use Rattle.std.specs.Prelude.{◌≡◌, [], ◌∷◌, ◌+◌, ◌*◌, ◌<◌, ◌≤◌, length};
-ghost use Rattle.answer_line.specs.AnswerLine.{decimal_by, numbers};
-ghost use Rattle.answer_line.specs.inner.Writing.{Wrote};
+// A line of text at the front of a buffer. It is for this crate alone: each method appends to the line, and asks for room in the buffer.
+ghost use Rattle.std.specs.Prelude.{[], ◌∷◌, ◌+◌, ◌<◌, ◌≤◌, length, decimal};
+ghost use Rattle.answer_line.specs.AnswerLine.{numbers};
+ghost use Rattle.answer_line.specs.inner.Writing.{Appended};
 
-// One byte.
-pub fn put_byte(out: &mut [u8], at: usize, byte: u8) -> usize
-    requires { at < length out.old }
-    ensures { Wrote out.old at (byte ∷ []) result out.new }
-{
-    out[at] = byte;
-    at + 1
+// The first `len` bytes are the line.
+#[derive(Drop)]
+pub struct Line<'a> {
+    pub bytes: &'a mut [u8],
+    pub len: usize,
 }
 
-// The bytes of a word.
-pub fn put_word(out: &mut [u8], at: usize, word: &[u8]) -> usize
-    requires { at + length word.now ≤ length out.old }
-    ensures { Wrote out.old at word.now result out.new }
-{
-    let mut i = 0;
-    while i < word.len() {
-        let byte = word[i];
-        out[at + i] = byte;
-        i += 1;
+impl Line<'_> {
+    // One byte.
+    pub fn byte(&mut self, byte: u8)
+        requires { self.old.len < length self.old.bytes.now }
+        ensures { Appended self.old (byte ∷ []) self.new }
+    {
+        self.bytes[self.len] = byte;
+        self.len += 1;
     }
-    at + i
-}
 
-// The decimal digits of a number that has at most `places` of them.
-fn put_digits(out: &mut [u8], at: usize, places: u8, n: u32) -> usize
-    requires { at + places ≤ length out.old }
-    ensures { Wrote out.old at (decimal_by places n) result out.new }
-{
-    if places == 0 {
-        return at;
+    // The bytes of a word.
+    pub fn word(&mut self, word: &[u8])
+        requires { self.old.len + length word.now ≤ length self.old.bytes.now }
+        ensures { Appended self.old word.now self.new }
+    {
+        let end = self.len + word.len();
+        self.bytes[self.len..end].copy_from_slice(word);
+        self.len = end;
     }
-    if n < 10 {
-        return put_byte(out, at, 48 + n as u8);
+
+    // The decimal digits of a number, from the left: those of n / 10, then the last one.
+    fn digits(&mut self, n: u32)
+        requires { self.old.len + length (decimal n) ≤ length self.old.bytes.now }
+        ensures { Appended self.old (decimal n) self.new }
+    {
+        if n >= 10 {
+            self.digits(n / 10);
+        }
+        self.byte(b'0' + (n % 10) as u8);
     }
-    let next = put_digits(out, at, places - 1, n / 10);
-    put_byte(out, next, 48 + (n % 10) as u8)
-}
 
-// A blank and a number.
-pub fn put_number(out: &mut [u8], at: usize, n: u32) -> usize
-    requires { at + 11 ≤ length out.old }
-    ensures wrote { Wrote out.old at (numbers (n ∷ [])) result out.new }
-    ensures upper_bound { result ≤ at + 11 }
-{
-    let next = put_byte(out, at, 32);
-    put_digits(out, next, 10, n)
-}
-
-// A byte as a number that can be printed.
-pub fn wide(byte: u8) -> u32
-    ensures { result ≡ byte }
-{
-    byte as u32
-}
-
-// A blank and a number, for each byte.
-pub fn put_bytes(out: &mut [u8], at: usize, bytes: &[u8]) -> usize
-    requires { at + 11 * length bytes.now ≤ length out.old }
-    ensures wrote { Wrote out.old at (numbers bytes.now) result out.new }
-    ensures upper_bound { result ≤ at + 11 * length bytes.now }
-{
-    let mut next = at;
-    let mut i = 0;
-    while i < bytes.len() {
-        let n = wide(bytes[i]);
-        next = put_number(out, next, n);
-        i += 1;
+    // A blank and a number.
+    pub fn number(&mut self, n: u32)
+        requires { self.old.len + 11 ≤ length self.old.bytes.now }
+        ensures appended { Appended self.old (numbers (n ∷ [])) self.new }
+        ensures upper_bound { self.new.len ≤ self.old.len + 11 }
+    {
+        self.byte(b' ');
+        self.digits(n);
     }
-    next
 }

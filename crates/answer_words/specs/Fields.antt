@@ -4,6 +4,7 @@ use Rattle.lamp_line.specs.declared.ProgramState.{ProgramState}
 use Rattle.lamp_line.specs.declared.WorldState.{WorldState}
 use Rattle.lamp_line.specs.declared.Cabinet.{Cabinet}
 use Rattle.lamp_line.specs.Tables.{Line}
+use Rattle.lamp_line.specs.Run.{pair}
 use Rattle.job_layout.specs.declared.Sizes.{Sizes}
 use Rattle.job_file.specs.Reading.{reading_of}
 use Rattle.lamp_walk.specs.WalkAnswers.{walk_answer}
@@ -53,7 +54,7 @@ RefusalShown n = (code_field n ≡ refused_code) ↔ (refusal_field n ≢ 0)
 -- It is so for every number that an exported function answers by its contract, whatever it is handed.
 pub record RefusalsShown : Type 0 where
   pub of_read : (s : List ℕ) → RefusalShown (read_word (reading_of s))
-  pub of_walk : (s : List ℕ) (q : ProgramState) (w : WorldState) (column : ℕ) → RefusalShown (walk_word (walk_answer s q w column))
+  pub of_walk : (s : List ℕ) (q : ProgramState) (w : WorldState) (column : ℕ) → RefusalShown (walk_word (walk_answer s (pair q w) column))
   pub of_run : (s : List ℕ) (start : WorldState) (line : Line) (limit : ℕ) → RefusalShown (run_word (run_answer s start line limit))
   pub of_check : (s : List ℕ) (n : ℕ) (before after : Lent) → CheckedWord s n before after → RefusalShown n
   pub of_check_up_to : (s : List ℕ) (longest n : ℕ) (before after : Lent) → CheckedUpToWord s longest n before after → RefusalShown n

@@ -3,17 +3,16 @@
 #![tactic(auto)]
 
 ghost use Rattle.std.specs.Prelude.{◌≡◌};
-ghost use Rattle.answer_words.specs.AnswerWords.{answer_word, refused_word, read_word, ending_code, walk_word, run_word};
-ghost use Rattle.answer_words.specs.AnswerWords.{failed_word, check_word, short_word, cabinet_word, begin_word, action_word, report_word, replay_word, fill_word};
+ghost use Rattle.answer_words.specs.AnswerWords.{answer_word, refused_word, done_word, read_word, ending_code, walk_word, run_word};
+ghost use Rattle.answer_words.specs.AnswerWords.{failed_word, error_word, check_word, short_word, cabinet_word, begin_word, action_word, report_word, replay_word, fill_word};
 
-use cabinet::{ActionAnswer, BeginAnswer, ReportAnswer};
-use cell_filling::FillAnswer;
-use job_file::Reading;
-use lamp_line::{Cabinet, Ending, failure_number};
-use lamp_walk::WalkAnswer;
-use line_run::RunAnswer;
-use log_replay::ReplayAnswer;
-use plan_check::{CheckAnswer, Failure, ShortAnswer};
+use cabinet::ReportError;
+use job_layout::Job;
+use lamp_line::{Cabinet, Ending, Refusal};
+use lamp_walk::Walked;
+use line_run::Ran;
+use log_replay::ReplayError;
+use plan_check::{CheckError, Failure};
 
 // The codes, besides 1 to 4, which are the numbers of the failure kinds.
 const GOAL: u8 = 0;
@@ -42,18 +41,25 @@ fn answer_word(refusal: u8, code: u8, state: u8, world: u8, count: u32) -> u64
 }
 
 // A refusal with no state.
-fn refused_word(number: u8) -> u64
-    ensures { result ≡ refused_word number }
+fn refused_word(refusal: Refusal) -> u64
+    ensures { result ≡ refused_word refusal }
 {
-    answer_word(number, REFUSED, 0, 0, 0)
+    answer_word(refusal.number(), REFUSED, 0, 0, 0)
 }
 
-pub fn read_word(reading: Reading) -> u64
+// An answer that says no more than that the call is not refused.
+fn done_word() -> u64
+    ensures { result ≡ done_word }
+{
+    answer_word(0, GOAL, 0, 0, 0)
+}
+
+pub fn read_word(reading: Result<Job, Refusal>) -> u64
     ensures { result ≡ read_word reading }
 {
     match reading {
-        Reading::Job(job) => answer_word(0, GOAL, 0, 0, 0),
-        Reading::Refused(number) => refused_word(number),
+        Ok(_) => done_word(),
+        Err(refusal) => refused_word(refusal),
     }
 }
 
@@ -63,29 +69,29 @@ fn ending_code(ending: Ending) -> u8
 {
     match ending {
         Ending::Goal => GOAL,
-        Ending::Failure(kind) => failure_number(kind),
+        Ending::Failure(kind) => kind.number(),
     }
 }
 
-pub fn walk_word(answer: WalkAnswer) -> u64
+pub fn walk_word(answer: Result<Walked, Refusal>) -> u64
     ensures { result ≡ walk_word answer }
 {
     match answer {
-        WalkAnswer::Ended(ending, steps) => answer_word(0, ending_code(ending), 0, 0, steps),
-        WalkAnswer::Arrived(state, world, steps) => {
-            answer_word(0, ARRIVED, state.0, world.0, steps)
+        Ok(Walked::Ended(ending, steps)) => answer_word(0, ending_code(ending), 0, 0, steps),
+        Ok(Walked::Arrived(pair, steps)) => {
+            answer_word(0, ARRIVED, pair.state.0, pair.world.0, steps)
         }
-        WalkAnswer::Refused(number) => refused_word(number),
+        Err(refusal) => refused_word(refusal),
     }
 }
 
-pub fn run_word(answer: RunAnswer) -> u64
+pub fn run_word(answer: Result<Ran, Refusal>) -> u64
     ensures { result ≡ run_word answer }
 {
     match answer {
-        RunAnswer::Ended(ending, steps) => answer_word(0, ending_code(ending), 0, 0, steps),
-        RunAnswer::Stopped(steps) => answer_word(0, STOPPED, 0, 0, steps),
-        RunAnswer::Refused(number) => refused_word(number),
+        Ok(Ran::Ended(ending, steps)) => answer_word(0, ending_code(ending), 0, 0, steps),
+        Ok(Ran::Stopped(steps)) => answer_word(0, STOPPED, 0, 0, steps),
+        Err(refusal) => refused_word(refusal),
     }
 }
 
@@ -93,33 +99,40 @@ pub fn run_word(answer: RunAnswer) -> u64
 fn failed_word(failure: Failure) -> u64
     ensures { result ≡ failed_word failure }
 {
-    let kind = failure.kind;
     answer_word(
         0,
-        failure_number(kind),
+        failure.kind.number(),
         failure.start.0,
         failure.end,
         failure.lamps as u32,
     )
 }
 
-pub fn check_word(answer: CheckAnswer) -> u64
-    ensures { result ≡ check_word answer }
+// A check that does not accept.
+fn error_word(error: CheckError) -> u64
+    ensures { result ≡ error_word error }
 {
-    match answer {
-        CheckAnswer::Accepted(count) => answer_word(0, GOAL, 0, 0, count),
-        CheckAnswer::Failed(failure) => failed_word(failure),
-        CheckAnswer::Refused(number) => refused_word(number),
+    match error {
+        CheckError::Failed(failure) => failed_word(failure),
+        CheckError::Refused(refusal) => refused_word(refusal),
     }
 }
 
-pub fn short_word(answer: ShortAnswer) -> u64
+pub fn check_word(answer: Result<u32, CheckError>) -> u64
+    ensures { result ≡ check_word answer }
+{
+    match answer {
+        Ok(count) => answer_word(0, GOAL, 0, 0, count),
+        Err(error) => error_word(error),
+    }
+}
+
+pub fn short_word(answer: Result<u16, CheckError>) -> u64
     ensures { result ≡ short_word answer }
 {
     match answer {
-        ShortAnswer::NoneUpTo(longest) => answer_word(0, NONE_UP_TO, 0, 0, longest as u32),
-        ShortAnswer::Failed(failure) => failed_word(failure),
-        ShortAnswer::Refused(number) => refused_word(number),
+        Ok(longest) => answer_word(0, NONE_UP_TO, 0, 0, longest as u32),
+        Err(error) => error_word(error),
     }
 }
 
@@ -130,49 +143,49 @@ fn cabinet_word(number: u8, code: u8, state: Cabinet) -> u64
     answer_word(number, code, state.state.0, 0, state.lamps as u32)
 }
 
-pub fn begin_word(answer: BeginAnswer) -> u64
+pub fn begin_word(answer: Result<Cabinet, Refusal>) -> u64
     ensures { result ≡ begin_word answer }
 {
     match answer {
-        BeginAnswer::Begun(state) => cabinet_word(0, GOAL, state),
-        BeginAnswer::Refused(number) => refused_word(number),
+        Ok(state) => cabinet_word(0, GOAL, state),
+        Err(refusal) => refused_word(refusal),
     }
 }
 
-pub fn action_word(answer: ActionAnswer) -> u64
+pub fn action_word(answer: Result<Option<u8>, Refusal>) -> u64
     ensures { result ≡ action_word answer }
 {
     match answer {
-        ActionAnswer::Action(action) => answer_word(0, GOAL, action, 0, 0),
-        ActionAnswer::Ended => answer_word(0, ENDED, 0, 0, 0),
-        ActionAnswer::Refused(number) => refused_word(number),
+        Ok(Some(action)) => answer_word(0, GOAL, action, 0, 0),
+        Ok(None) => answer_word(0, ENDED, 0, 0, 0),
+        Err(refusal) => refused_word(refusal),
     }
 }
 
-pub fn report_word(answer: ReportAnswer) -> u64
+pub fn report_word(answer: Result<Cabinet, ReportError>) -> u64
     ensures { result ≡ report_word answer }
 {
     match answer {
-        ReportAnswer::Taken(state) => cabinet_word(0, GOAL, state),
-        ReportAnswer::Refused(number, state) => cabinet_word(number, REFUSED, state),
+        Ok(state) => cabinet_word(0, GOAL, state),
+        Err(error) => cabinet_word(error.refusal.number(), REFUSED, error.state),
     }
 }
 
-pub fn replay_word(answer: ReplayAnswer) -> u64
+pub fn replay_word(answer: Result<(), ReplayError>) -> u64
     ensures { result ≡ replay_word answer }
 {
     match answer {
-        ReplayAnswer::Possible => answer_word(0, GOAL, 0, 0, 0),
-        ReplayAnswer::ImpossibleAt(place) => answer_word(0, IMPOSSIBLE, 0, 0, place as u32),
-        ReplayAnswer::Refused(number) => refused_word(number),
+        Ok(()) => done_word(),
+        Err(ReplayError::ImpossibleAt(place)) => answer_word(0, IMPOSSIBLE, 0, 0, place as u32),
+        Err(ReplayError::Refused(refusal)) => refused_word(refusal),
     }
 }
 
-pub fn fill_word(answer: FillAnswer) -> u64
+pub fn fill_word(answer: Result<(), Refusal>) -> u64
     ensures { result ≡ fill_word answer }
 {
     match answer {
-        FillAnswer::Filled => answer_word(0, GOAL, 0, 0, 0),
-        FillAnswer::Refused(number) => refused_word(number),
+        Ok(()) => done_word(),
+        Err(refusal) => refused_word(refusal),
     }
 }

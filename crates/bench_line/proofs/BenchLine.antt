@@ -1,7 +1,5 @@
 -- The starred cases of bench line G: the runs are computed, and so is the search as it is defined, whose verdict is right.
-use mathlib.Core.Path.{◌≡◌, refl, subst}
-use mathlib.Core.List.{List}
-use Prim.Native.Nat.{ℕ}
+use Rattle.std.proofs.Common.{◌≡◌, refl, subst, List, ℕ}
 use Rattle.lamp_line.specs.Tables.{columns, kinds_of_ends, lamp_column}
 use Rattle.lamp_line.specs.Refusals.{refusal, answer_by, some_below}
 use Rattle.lamp_line.specs.Run.{act, walk, along, own_steps}

@@ -4,6 +4,7 @@ use mathlib.Core.Path.{◌≡◌, refl, ap, ◌∙◌}
 use mathlib.Core.Bool.{Bool, true, false}
 use mathlib.Core.List.{List, [], ◌∷◌, ◌++◌, map, map-append}
 use Prim.Native.Nat.{ℕ, ◌-◌, ◌<◌}
+use Rattle.std.specs.Prelude.{Some, Ok}
 use native.Mathlib.Omega.{arith}
 use lib.ListN.{length}
 use Rattle.plans.specs.Execution.{Label, action_of, result_of, Step, T*, here, join, step}
@@ -21,11 +22,9 @@ use Rattle.job_layout.specs.declared.Job.{Job}
 use Rattle.job_layout.specs.JobTables.{tables_of}
 use Rattle.job_file.specs.Reading.{Opened}
 use Rattle.job_tables.proofs.Ranges.{well_formed}
-use Rattle.cabinet.specs.declared.ActionAnswer.TheVariants as action
-use Rattle.cabinet.specs.declared.ReportAnswer.TheVariants as report
-use Rattle.cabinet.specs.CabinetAnswers.{moved_to, action_answer, report_answer}
+use Rattle.cabinet.specs.CabinetAnswers.{keeping, moved_to, action_answer, state_answer, report_answer}
 use Rattle.cabinet.specs.Calls.{Call, report_call, returned, handed_on, left_by, TakenReport}
-use Rattle.cabinet.proofs.Answering.{action_acts, report_passes, report_stays}
+use Rattle.cabinet.proofs.Answering.{action_acts, state_passes, state_stays}
 
 -- The cabinet beside an execution that has reached the program state q and the situation s.
 abbrev pub machine_at : ProgramState → Situation → Cabinet
@@ -77,7 +76,7 @@ module _ (bytes : List ℕ) {j : Job} (opened : Opened bytes j) where
           omega arith
 
       -- Asked before a step for its action, the cabinet names the step's.
-      pub step_asked : action_answer bytes (machine_at q s) ≡ action.Action (action_of l)
+      pub step_asked : action_answer bytes (machine_at q s) ≡ Ok (Some (action_of l))
       step_asked = rw x.acts (action_acts bytes opened (machine_at q s) not_final)
 
       -- The machine moves as the execution does.
@@ -95,16 +94,20 @@ module _ (bytes : List ℕ) {j : Job} (opened : Opened bytes j) where
               let same : s'.rest ≡ s.rest = rw e at x.does.1 in
               rw (e, same)
 
-      takes : report_answer bytes (machine_at q s) (result_of l) ≡ report.Taken (moved_to (tables_of bytes) (machine_at q s) q')
-      takes = by (moves_on (tables_of bytes) ((tables_of bytes).action q)) refl
+      leads : state_answer bytes (machine_at q s) (result_of l) ≡ Ok (moved_to (tables_of bytes) (machine_at q s) q')
+      leads = by (moves_on (tables_of bytes) ((tables_of bytes).action q)) refl
         where
           by :
               (b : Bool) → moves_on (tables_of bytes) ((tables_of bytes).action q) ≡ b →
-              report_answer bytes (machine_at q s) (result_of l) ≡ report.Taken (moved_to (tables_of bytes) (machine_at q s) q')
+              state_answer bytes (machine_at q s) (result_of l) ≡ Ok (moved_to (tables_of bytes) (machine_at q s) q')
           by true e =
               let one_fewer = step_passes (tables_of bytes) wf x (rw x.acts e) p.end_range in
-              report_passes bytes opened (machine_at q s) (result_of l) not_final x.branch e (omega arith) ∙ rw e
-          by false e = report_stays bytes opened (machine_at q s) (result_of l) not_final x.branch e ∙ rw e
+              state_passes bytes opened (machine_at q s) (result_of l) not_final x.branch e (omega arith) ∙ rw e
+          by false e = state_stays bytes opened (machine_at q s) (result_of l) not_final x.branch e ∙ rw e
+
+      takes : report_answer bytes (machine_at q s) (result_of l) ≡ Ok (moved_to (tables_of bytes) (machine_at q s) q')
+      unfolding report_answer
+      takes = ap (keeping (machine_at q s)) leads
 
       -- The step's result is taken.
       pub step_taken : TakenReport bytes (machine_at q s) (result_of l)

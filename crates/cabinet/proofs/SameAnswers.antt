@@ -2,7 +2,7 @@
 -- on both.
 use mathlib.Core.Path.{◌≡◌, refl, sym, ap, ◌∙◌}
 use mathlib.Core.Bool.{Bool, true, false, cond, ◌&&◌}
-use mathlib.Core.Option.{Option, none, some}
+use Rattle.std.specs.Prelude.{Option, None, Some}
 use mathlib.Core.List.{List, [], ◌∷◌}
 use Prim.Native.Nat.{ℕ, ◌+◌, ◌*◌, ◌<◌}
 use native.Mathlib.Omega.{arith}
@@ -13,13 +13,15 @@ use Rattle.plans.specs.Plan.{Action, Result}
 use Rattle.lamp_line.specs.declared.ProgramState.{ProgramState}
 use Rattle.lamp_line.specs.declared.Cabinet.{Cabinet}
 use Rattle.lamp_line.specs.Tables.{Tables}
-use Rattle.lamp_line.specs.Refusals.{◌when◌, answer_by}
+use Rattle.lamp_line.specs.declared.Refusal.TheVariants as refused
+use Rattle.lamp_line.specs.Refusals.{◌when◌, refusal, or_refused, answer_by}
+use Rattle.job_layout.specs.declared.Job.{Job}
 use Rattle.job_layout.specs.Layout.{byte, head, mark_place, action_place, target_place}
 use Rattle.job_layout.specs.JobTables.{branch, tables_of}
-use Rattle.cabinet.specs.declared.ActionAnswer.TheVariants as action
-use Rattle.cabinet.specs.CabinetAnswers.{keeping, is_above, has_ended, followed}
+use Rattle.job_file.specs.Reading.{Opened}
+use Rattle.cabinet.specs.CabinetAnswers.{keeping, is_above, has_ended, followed, state_answer, report_answer}
 use Rattle.cabinet.specs.ReadsPlan.{EqualForCabinet, ReadsPlanOnly}
-use Rattle.cabinet.proofs.Answering.{begin_opened, action_refusals, report_refusals}
+use Rattle.cabinet.proofs.Answering.{begin_opened, action_refusals, state_refusals}
 
 -- ---- equal tables
 
@@ -33,20 +35,21 @@ record EqualTables (t t' : Tables) : Type 0 where
 
 same_followed :
     {t t' : Tables} → EqualTables t t' → (m : Cabinet) (target : Option ProgramState) → followed t m target ≡ followed t' m target
-same_followed same m none = refl
-same_followed {t} {t'} same m (some q) = rw (same.acts m.state, same.marks (t'.action m.state))
+same_followed same m None = refl
+same_followed {t} {t'} same m (Some q) = rw (same.acts m.state, same.marks (t'.action m.state))
 
 module _ {t t' : Tables} (same : EqualTables t t') (m : Cabinet) where
   same_action_refusals :
-      answer_by action.Refused ((16 when is_above t m) ∷ []) (cond (has_ended t m) action.Ended (action.Action (t.action m.state)))
-      ≡ answer_by action.Refused ((16 when is_above t' m) ∷ []) (cond (has_ended t' m) action.Ended (action.Action (t'.action m.state)))
+      answer_by ((refused.State when is_above t m) ∷ []) (cond (has_ended t m) None (Some (t.action m.state)))
+      ≡ answer_by ((refused.State when is_above t' m) ∷ []) (cond (has_ended t' m) None (Some (t'.action m.state)))
   same_action_refusals = rw (same.states, same.acts m.state)
 
-  same_report_refusals :
+  same_state_refusals :
       (r : Result) →
-      answer_by (keeping m) ((16 when is_above t m) ∷ (17 when has_ended t m) ∷ []) (followed t m (t.target m.state r))
-      ≡ answer_by (keeping m) ((16 when is_above t' m) ∷ (17 when has_ended t' m) ∷ []) (followed t' m (t'.target m.state r))
-  same_report_refusals r = rw (same.states, same.targets m.state r, same_followed same m (t'.target m.state r))
+      or_refused (refusal ((refused.State when is_above t m) ∷ (refused.AfterEnd when has_ended t m) ∷ [])) (followed t m (t.target m.state r))
+      ≡ or_refused (refusal ((refused.State when is_above t' m) ∷ (refused.AfterEnd when has_ended t' m) ∷ []))
+      (followed t' m (t'.target m.state r))
+  same_state_refusals r = rw (same.states, same.targets m.state r, same_followed same m (t'.target m.state r))
 
 -- ---- equal files
 
@@ -81,7 +84,7 @@ module _ (s s' : List ℕ) (equal : EqualForCabinet s s') where
   same_target q r = by (ltb q.0 (head s).states) (ltb r (head s).results) refl refl
     where
       by : (b b' : Bool) → ltb q.0 (head s).states ≡ b → ltb r (head s).results ≡ b' →
-          cond (b && b') (branch (byte s (target_place (head s) q r))) none ≡ (tables_of s').target q r
+          cond (b && b') (branch (byte s (target_place (head s) q r))) None ≡ (tables_of s').target q r
       by true true e e' =
           let r< : r < (head s).results = ltb-true _ _ e' in
           ap branch
@@ -101,13 +104,19 @@ module _ (s s' : List ℕ) (equal : EqualForCabinet s s') where
         targets = same_target;
       }
 
+same_state : (s s' : List ℕ) {j j' : Job} → Opened s j → Opened s' j' → EqualForCabinet s s' → (m : Cabinet) (r : Result) →
+    state_answer s m r ≡ state_answer s' m r
+same_state s s' opened opened' equal m r =
+    state_refusals s opened m r ∙ same_state_refusals (same_tables s s' equal) m r ∙ sym (state_refusals s' opened' m r)
+
 -- The cabinet's operations cannot tell such files apart.
 pub same_answers : ReadsPlanOnly
+unfolding report_answer
 same_answers s s' j j' opened opened' equal =
     let same = same_tables s s' equal in
     record {
       begins = λ count.
           begin_opened s opened count ∙ (rw same.first (sym (begin_opened s' opened' count)));
       actions = λ m. action_refusals s opened m ∙ same_action_refusals same m ∙ sym (action_refusals s' opened' m);
-      reports = λ m r. report_refusals s opened m r ∙ same_report_refusals same m r ∙ sym (report_refusals s' opened' m r);
+      reports = λ m r. ap (keeping m) (same_state s s' opened opened' equal m r);
     }

@@ -3,6 +3,7 @@
 use mathlib.Core.Path.{◌≡◌, refl}
 use mathlib.Core.List.{List, [], ◌∷◌, ◌++◌, append-nil, append_assoc}
 use Prim.Native.Nat.{ℕ}
+use Rattle.std.specs.Prelude.{None, Some, Ok}
 use Rattle.plans.specs.Plan.{Result}
 use Rattle.plans.specs.Execution.{Label, did, action_of, result_of, T*, here, join, step}
 use Rattle.lamp_line.specs.declared.ProgramState.{ProgramState}
@@ -12,7 +13,6 @@ use Rattle.job_layout.specs.declared.Job.{Job}
 use Rattle.job_layout.specs.JobTables.{tables_of}
 use Rattle.job_file.specs.Reading.{Opened}
 use Rattle.job_tables.proofs.Ranges.{well_formed}
-use Rattle.cabinet.specs.declared.ActionAnswer.TheVariants as action
 use Rattle.cabinet.specs.CabinetAnswers.{action_answer}
 use Rattle.cabinet.specs.Calls.{Call, action_call, report_call, handed_on, left_by, RefusedReport, TakenReport, Reports, all_reported, asked, besides, reported, Owed}
 use Rattle.cabinet.proofs.Answering.{action_ended}
@@ -35,8 +35,8 @@ module _ (bytes : List ℕ) where
   unfolding left_by Owed
   answered_besides refused k = record { owed = k.owed; leaves = rw refused.answers k.leaves }
 
-  -- An execution with no step left is served by a cabinet that answers Ended.
-  serves_no_step : (m : Cabinet) → action_answer bytes m ≡ action.Ended → Serves m [] m
+  -- An execution with no step left is served by a cabinet that answers that there is none.
+  serves_no_step : (m : Cabinet) → action_answer bytes m ≡ Ok None → Serves m [] m
   unfolding left_by Owed
   serves_no_step m e [] all_reported = record { owed = tt; leaves = refl }
   serves_no_step m e (action_call ∷ calls) (asked more) =
@@ -47,7 +47,7 @@ module _ (bytes : List ℕ) where
   -- If the steps after a step are served, so are all of them, provided the cabinet names the step's action and takes its result.
   serves_step :
       (l : Label) {ls : List Label} {m m' n : Cabinet} →
-      action_answer bytes m ≡ action.Action (action_of l) → TakenReport bytes m (result_of l) →
+      action_answer bytes m ≡ Ok (Some (action_of l)) → TakenReport bytes m (result_of l) →
       handed_on bytes m (report_call (result_of l)) ≡ m' → Serves m' ls n → Serves m (l ∷ ls) n
   unfolding left_by Owed
   serves_step (did a r) {ls = ls} {m = m} {m' = m'} {n = n} e taken on later [] reports = elim reports [ ]

@@ -1,17 +1,15 @@
 -- Lists of calls of the cabinet's operations on the same job file (01, "The cabinet"). The state goes from Begin to the calls, and from each
 -- report to the calls after it.
 use Rattle.std.specs.Prelude.{◌≡◌, List, [], ◌∷◌, ℕ, ◌≤◌}
-use Rattle.std.proofs.Math.Option.{some}
+use Rattle.std.specs.Prelude.{Option, None, Some, Ok, Err}
 use Rattle.plans.specs.Plan.{Action, Result}
 use Rattle.plans.specs.Execution.{Label, did}
 use Rattle.lamp_line.specs.declared.ProgramState.{ProgramState}
 use Rattle.lamp_line.specs.declared.Cabinet.{Cabinet}
+use Rattle.lamp_line.specs.declared.Refusal.{Refusal}
+use Rattle.lamp_line.specs.Refusals.{Answer, refusal_number}
 use Rattle.job_layout.specs.JobTables.{tables_of}
-use Rattle.cabinet.specs.declared.ActionAnswer.{ActionAnswer}
-use Rattle.cabinet.specs.declared.ActionAnswer.TheVariants as action
-use Rattle.cabinet.specs.declared.ReportAnswer.{ReportAnswer}
-use Rattle.cabinet.specs.declared.ReportAnswer.TheVariants as report
-use Rattle.cabinet.specs.CabinetAnswers.{moved_to, action_answer, report_answer}
+use Rattle.cabinet.specs.CabinetAnswers.{ReportAnswer, moved_to, action_answer, report_answer}
 
 -- A call after Begin: it asks for the action, or reports a result.
 pub data Call : Type 0 where
@@ -20,13 +18,13 @@ pub data Call : Type 0 where
 
 -- The state that a report returns.
 abbrev pub returned : ReportAnswer → Cabinet
-returned (report.Taken m) = m
-returned (report.Refused number m) = m
+returned (Ok m) = m
+returned (Err error) = error.state
 
--- What an action call is owed while these steps of the execution are still to come: the first one's action, or Ended if there is none.
-abbrev pub next_action : List Label → ActionAnswer
-next_action [] = action.Ended
-next_action (did a r ∷ ls) = action.Action a
+-- What an action call is owed while these steps of the execution are still to come: the first one's action, or none if there is no step.
+abbrev pub next_action : List Label → Answer (Option ℕ)
+next_action [] = Ok None
+next_action (did a r ∷ ls) = Ok (Some a)
 
 module _ (s : List ℕ) where
   -- The state that the next call is handed.
@@ -41,9 +39,9 @@ module _ (s : List ℕ) where
 
   -- A report of r in state m is refused with 17, 18 or 19, and answers m again.
   pub record RefusedReport (m : Cabinet) (r : Result) : Type 0 where
-    pub number : ℕ
-    pub for_the_line : (17 ≤ number) × (number ≤ 19)
-    pub answers : report_answer s m r ≡ report.Refused number m
+    pub because : Refusal
+    pub for_the_line : (17 ≤ refusal_number because) × (refusal_number because ≤ 19)
+    pub answers : report_answer s m r ≡ Err (record { refusal = because; state = m })
 
   -- From state m on, the calls report the results of all these steps in their order. All other calls are action calls and reports that
   -- are refused. It is not assumed that the results of the steps are taken; that is part of what is owed.
@@ -60,10 +58,10 @@ module _ (s : List ℕ) where
   -- A report of r in state m is taken: the result has a branch, and the answer is the state to which it leads.
   pub record TakenReport (m : Cabinet) (r : Result) : Type 0 where
     pub target : ProgramState
-    pub branch : (tables_of s).target m.state r ≡ some target
-    pub answers : report_answer s m r ≡ report.Taken (moved_to (tables_of s) m target)
+    pub branch : (tables_of s).target m.state r ≡ Some target
+    pub answers : report_answer s m r ≡ Ok (moved_to (tables_of s) m target)
 
-  -- What such a list of calls is owed: an action call is answered with the action of the step that comes next, or with Ended if none does,
+  -- What such a list of calls is owed: an action call is answered with the action of the step that comes next, or with none if no step does,
   -- and every result of the steps is taken.
   unfoldable pub Owed : {m : Cabinet} {ls : List Label} {calls : List Call} → Reports m ls calls → Type 0
   Owed all_reported = Unit {0}

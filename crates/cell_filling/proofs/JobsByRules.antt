@@ -1,15 +1,8 @@
 -- The tables of a job whose cells have been filled from rules are the rules' tables, and refusal 6 does not apply to it.
-use mathlib.Core.Bool.{Bool, true, false, cond, and-false}
-use mathlib.Core.List.{List, [], ◌∷◌}
-use mathlib.Core.Path.{◌≡◌, refl, sym, ap, ◌∙◌}
-use Prim.Native.Nat.{ℕ, zero, suc, ◌+◌, ◌*◌, ◌≤◌, ◌<◌, ◌/◌, ◌%◌}
-use native.Mathlib.Nat.{mod-lt, div-lt_iff_lt-mul, div-add-mod'}
-use native.Mathlib.Omega.{arith}
-use borrow.Author.Tests.{lt-leb, ne_eqb, lt-ltb}
-use lib.Arith.{digits_lt}
-use lib.Dec.{leb}
-use lib.ListN.{length, get_or, drop}
-use lib.Seq.{get_or-take, get_or-drop}
+use Rattle.std.proofs.Common.{Bool, true, false, cond, List, [], ◌∷◌, ◌≡◌, refl, sym, ap, ◌∙◌, ℕ, zero, suc, ◌+◌, ◌*◌, ◌≤◌, ◌<◌, ◌/◌, ◌%◌, mod-lt, div-lt_iff_lt-mul, div-add-mod', arith, ne_eqb, lt-ltb, leb, length, get_or, drop, get_or-take, get_or-drop}
+use Rattle.std.proofs.Math.Bool.{and-false}
+use borrow.Author.Tests.{lt-leb}
+use Rattle.std.proofs.Math.Arith.{digits_lt}
 use Rattle.lamp_line.specs.Lists.{blocks}
 use Rattle.lamp_line.specs.Refusals.{refusal, answer_by}
 use Rattle.lamp_line.specs.Tables.{world_state, Outcome, outcome, kinds_of_ends, columns}
@@ -35,7 +28,7 @@ use Rattle.cell_filling.specs.FillAnswers.{fill_answer, CellsFilled}
 use Rattle.cell_filling.specs.RulesInJobs.{cells_part_of, CellsByRules, FilledInJob}
 use Rattle.cell_filling.proofs.WholePart.{places_equal}
 use Rattle.head_refusals.proofs.HeadLaws.{SizesInside}
-use Rattle.cell_filling.specs.declared.FillAnswer.TheVariants as answer
+use Rattle.std.specs.Prelude.{Ok}
 
 -- ---- what stands where in the part
 
@@ -109,7 +102,7 @@ module _ {worlds results : ℕ} (some : 1 ≤ worlds) (few : results ≤ 8) wher
 -- ---- the job
 
 -- The generator's answer says that the rules are not refused.
-filled_right : (s : List ℕ) (n : Sizes) (size : ℕ) → answer.Filled ≡ fill_answer s n size → RulesRight s n
+filled_right : (s : List ℕ) (n : Sizes) (size : ℕ) → (Ok tt) ≡ fill_answer s n size → RulesRight s n
 unfolding fill_answer answer_by refusal
 filled_right s n size e = rules_right s n (by (rules_wrong s n) refl)
   where
@@ -117,7 +110,7 @@ filled_right s n size e = rules_right s n (by (rules_wrong s n) refl)
     by false h = h
     by true h = absurd (let z : ◌≡◌ {A = ℕ} 0 1 = (let e' = rw h at e in cc) in omega arith)
 
-module _ (rules s before after : List ℕ) (filled : CellsFilled rules (sizes_of (head s)) answer.Filled before after) (in_job : cells_part_of s ≡ after) where
+module _ (rules s before after : List ℕ) (filled : CellsFilled rules (sizes_of (head s)) (Ok tt) before after) (in_job : cells_part_of s ≡ after) where
   right : RulesRight rules (sizes_of (head s))
   right = filled_right rules (sizes_of (head s)) (length before) filled.answered
 

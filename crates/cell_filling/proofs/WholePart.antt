@@ -1,13 +1,6 @@
 -- The whole part, world state by world state; and that it is the definition's list where each cell is the definition's.
-use mathlib.Core.List.{List, [], ◌∷◌}
-use mathlib.Core.Path.{◌≡◌, sym, ◌∙◌, refl, ap}
-use Prim.Native.Nat.{ℕ, suc, ◌+◌, ◌*◌, ◌/◌, ◌≤◌, ◌<◌}
-use native.Mathlib.Decide.{ℕ_discrete}
-use native.Mathlib.Nat.{mul_assoc, add-mul}
-use native.Mathlib.Numerals.{add-one}
-use native.Mathlib.Omega.{arith}
-use lib.ListN.{length, length-set}
-use lib.Seq.{drop-cons, take_all}
+use Rattle.std.proofs.Common.{List, [], ◌∷◌, ◌≡◌, sym, ◌∙◌, ℕ, suc, ◌+◌, ◌*◌, ◌≤◌, ◌<◌, mul_assoc, add-mul, add-one, arith, length, drop-cons, take_all}
+use Rattle.std.proofs.Math.Decide.{ℕ_discrete}
 use Rattle.lamp_line.specs.Lists.{blocks}
 use Rattle.lamp_line.specs.Tables.{world_state}
 use Rattle.job_layout.specs.Layout.{byte, width}
@@ -16,8 +9,7 @@ use Rattle.fluent_rules.specs.CellRules.{rule_cell}
 use Rattle.fluent_rules.specs.CellsPart.{cell_bytes, cells_part, part_length}
 use Rattle.fluent_rules.proofs.Blocks.{piece, blocks_are}
 use Rattle.rules_file.specs.RulesFile.{rules_of}
-use Rattle.world_cells.specs.inner.CellsWritten.{cell_at, with_cell, cell_number, Cleared, WorldFilled}
-use Rattle.world_cells.proofs.CellWrites.{written_cell, kept_cell}
+use Rattle.world_cells.specs.inner.CellsWritten.{cell_at, cell_number, Cleared, WorldFilled}
 use Rattle.world_cells.proofs.Columns.{cells_row_in}
 
 -- ---- cells and blocks
@@ -64,24 +56,6 @@ cells_are n cell l long each =
 pub record ClearedTo (before : List ℕ) (i : ℕ) (l : List ℕ) : Type 0 where
   pub long : length l ≡ length before
   pub written : (j : ℕ) → j < i → cell_at l j ≡ cell_bytes []
-
-pub cleared_start : {before : List ℕ} → ClearedTo before 0 before
-cleared_start = record { long = refl; written = λ j j<. absurd (omega arith) }
-
-pub cleared_more : {before l after : List ℕ} {i : ℕ} → ClearedTo before i l → 2 * i + 1 < length before → after ≡ with_cell l i 0 255 →
-    ClearedTo before (i + 1) after
-cleared_more {before} {l} {after} {i} so_far in_part change =
-    record {
-      long = ap length change ∙ simp length-set so_far.long;
-      written = λ j j<. rw change (at j (ℕ_discrete j i) j<);
-    }
-  where
-    at : (j : ℕ) → Dec (j ≡ i) → j < i + 1 → cell_at (with_cell l i 0 255) j ≡ cell_bytes []
-    at j (yes e) j< = rw e (written_cell l i 0 255 (rw so_far.long in_part))
-    at j (no other) j< = kept_cell l i 0 255 j other ∙ so_far.written j (omega arith)
-
-pub cleared_done : {before l : List ℕ} {i : ℕ} → ClearedTo before i l → length before / 2 ≤ i → Cleared before l
-cleared_done all end = record { long = all.long; written = λ j j<. all.written j (omega arith) }
 
 -- ---- the loop over the world states
 

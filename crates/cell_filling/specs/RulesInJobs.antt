@@ -9,7 +9,7 @@ use Rattle.job_layout.specs.JobTables.{tables_of}
 use Rattle.job_layout.specs.FileRefusals.{cell_wrong}
 use Rattle.fluent_rules.specs.CellRules.{rule_cell}
 use Rattle.rules_file.specs.RulesFile.{rules_of}
-use Rattle.cell_filling.specs.declared.FillAnswer.TheVariants as answer
+use Rattle.std.specs.Prelude.{Ok}
 use Rattle.cell_filling.specs.FillAnswers.{CellsFilled}
 
 -- The bytes of a job file from the offset of its cells on, as many as its numbers ask for.
@@ -26,4 +26,4 @@ pub record CellsByRules (rules s : List ℕ) : Type 0 where
 -- It does where the generator has filled a part for the job's numbers, and that part is the job's.
 abbrev pub FilledInJob : Type 0
 FilledInJob =
-    (rules s before after : List ℕ) → CellsFilled rules (sizes_of (head s)) answer.Filled before after → cells_part_of s ≡ after → CellsByRules rules s
+    (rules s before after : List ℕ) → CellsFilled rules (sizes_of (head s)) (Ok tt) before after → cells_part_of s ≡ after → CellsByRules rules s

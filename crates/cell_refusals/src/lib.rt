@@ -7,11 +7,9 @@
 ghost use Rattle.std.specs.Prelude.{◌≡◌, ◌+◌, ◌*◌, ◌≤◌, ◌<◌, length};
 ghost use Rattle.lamp_line.specs.Tables.{kinds_of_ends};
 ghost use Rattle.lamp_line.specs.Refusals.{some_below};
-ghost use Rattle.job_layout.specs.inner.Laid.{Laid};
 ghost use Rattle.job_layout.specs.FileRefusals.{cell_wrong_in, cell_wrong_at, cell_wrong, legal_at_end, moves_on_at_end, end_wrong};
 
-use job_layout::Job;
-use job_layout::places::{cell_count, mark_place, next_place};
+use job_layout::LaidJob;
 use lamp_line::WorldState;
 
 // Most cells are legal and in range; for those the first two tests are enough.
@@ -32,89 +30,67 @@ fn any_cell_wrong(file: &[u8], from: usize, count: usize, worlds: u8, results: u
     requires { from + 2 * count ≤ length file.now }
     ensures { result ≡ some_below count (cell_wrong_at file.now from worlds results) }
 {
-    let mut i = 0;
-    while i < count {
-        let at = from + 2 * i;
-        if is_cell_wrong(worlds, results, file[at], file[at + 1]) {
-            return true;
-        }
-        i += 1;
-    }
-    false
+    let (cells, _) = file[from..from + 2 * count].as_chunks::<2>();
+    cells.iter().any(|[next, sensed]| is_cell_wrong(worlds, results, *next, *sensed))
 }
 
 // Refusal 6 applies.
-pub fn cell_wrong(file: &[u8], job: Job) -> bool
-    requires { Laid file.now job }
-    ensures { result ≡ cell_wrong file.now job }
+pub fn cell_wrong(laid: &LaidJob) -> bool
+    ensures { result ≡ cell_wrong laid.now.file.now laid.now.head }
 {
-    let cells = job.cells;
+    let cells = laid.head.cells;
     any_cell_wrong(
-        file,
+        laid.file,
         cells.offset as usize,
-        cell_count(job) as usize,
-        job.worlds,
-        job.results,
+        laid.head.cell_count() as usize,
+        laid.head.worlds,
+        laid.head.results,
     )
 }
 
 // The action is legal at this end in some world state.
-fn legal_at_end(file: &[u8], job: Job, action: u8, end: u8) -> bool
-    requires { Laid file.now job × (action < job.actions) × (end < kinds_of_ends job.ends) }
-    ensures { result ≡ legal_at_end file.now job action end }
+fn legal_at_end(laid: &LaidJob, action: u8, end: u8) -> bool
+    requires { (action < laid.now.head.actions) × (end < kinds_of_ends laid.now.head.ends) }
+    ensures { result ≡ legal_at_end laid.now.file.now laid.now.head action end }
 {
-    let worlds = job.worlds;
-    let mut w = 0;
-    while w < worlds {
-        let at = next_place(job, action, WorldState(w), end);
-        if file[at + 1] != 255 {
+    for w in 0..laid.head.worlds {
+        let at = laid.head.next_place(action, WorldState(w), end);
+        if laid.file[at + 1] != 255 {
             return true;
         }
-        w += 1;
     }
     false
 }
 
 // The action is legal at some end.
-fn legal_at_ends(file: &[u8], job: Job, action: u8) -> bool
-    requires { Laid file.now job × (action < job.actions) }
-    ensures { result ≡ some_below (kinds_of_ends job.ends) (legal_at_end file.now job action) }
+fn legal_at_ends(laid: &LaidJob, action: u8) -> bool
+    requires { action < laid.now.head.actions }
+    ensures { result ≡ some_below (kinds_of_ends laid.now.head.ends) (legal_at_end laid.now.file.now laid.now.head action) }
 {
-    let count = job.ends + 1;
-    let mut end = 0;
-    while end < count {
-        if legal_at_end(file, job, action, end) {
+    for end in 0..=laid.head.ends {
+        if legal_at_end(laid, action, end) {
             return true;
         }
-        end += 1;
     }
     false
 }
 
 // The action moves on, and is legal at some end.
-fn moves_on_at_end(file: &[u8], job: Job, action: u8) -> bool
-    requires { Laid file.now job × (action < job.actions) }
-    ensures { result ≡ moves_on_at_end file.now job action }
+fn moves_on_at_end(laid: &LaidJob, action: u8) -> bool
+    requires { action < laid.now.head.actions }
+    ensures { result ≡ moves_on_at_end laid.now.file.now laid.now.head action }
 {
-    let at = mark_place(job, action);
-    if file[at] != 0 {
-        return legal_at_ends(file, job, action);
-    }
-    false
+    laid.file[laid.head.mark_place(action)] != 0 && legal_at_ends(laid, action)
 }
 
 // Refusal 7 applies.
-pub fn end_wrong(file: &[u8], job: Job) -> bool
-    requires { Laid file.now job }
-    ensures { result ≡ end_wrong file.now job }
+pub fn end_wrong(laid: &LaidJob) -> bool
+    ensures { result ≡ end_wrong laid.now.file.now laid.now.head }
 {
-    let actions = job.actions;
-    let mut a = 0;
-    while a < actions {
-        if moves_on_at_end(file, job, a) {
+    for a in 0..laid.head.actions {
+        if moves_on_at_end(laid, a) {
             return true;
         }
-        a += 1;
     }
     false
 }

@@ -3,8 +3,7 @@ ghost use Rattle.std.specs.Prelude.{◌≤◌, IfOk};
 
 use crate::checking::{check_lines, print_told};
 use crate::kept::is_kept;
-use row_cases::printing::print_text;
-use row_cases::reading::{least, read_eight, read_four, read_two};
+use row_cases::reading::{read_u16, read_u32, read_u64};
 use std::io;
 use std::io::Read;
 
@@ -12,14 +11,14 @@ use std::io::Read;
 fn read_size(rows: &mut impl Read, most: usize) -> io::Result<usize>
     ensures { IfOk result (λ size. size ≤ most) }
 {
-    Ok(least(read_two(rows)? as usize, most))
+    Ok(most.min(usize::from(read_u16(rows)?)))
 }
 
 // Checks with these buffers. The answer is printed, and whether the bytes that must be kept are kept.
 fn check_lent(
     rt: &impl Print,
     file: &[u8],
-    longest: usize,
+    longest: u32,
     line: &mut [u8],
     list: &mut [u32],
     words: &mut [u64],
@@ -28,18 +27,19 @@ fn check_lent(
     let told = check_lines(file, longest, line, list, words);
     print_told(rt, told, line)?;
     if is_kept(told, line, list, words, content) {
-        return print_text(rt, b", kept");
+        print!(rt; ", kept")
+    } else {
+        print!(rt; ", changed")
     }
-    print_text(rt, b", changed")
 }
 
 // Checks, up to a number of lamps or all lines, which is read with the sizes of the buffers and the content of the words.
 pub fn check_with_buffers(rt: &impl Print, rows: &mut impl Read, file: &[u8]) -> io::Result<()> {
-    let longest = read_four(rows)? as usize;
+    let longest = read_u32(rows)?;
     let lamps = read_size(rows, 4097)?;
     let numbers = read_size(rows, 4160)?;
     let count = read_size(rows, 65)?;
-    let content = read_eight(rows)?;
+    let content = read_u64(rows)?;
     let mut line = [7u8; 4097];
     let mut list = [9u32; 4160];
     let mut words = [content; 65];

@@ -4,12 +4,7 @@ use crate::checking::Told;
 
 // Whether the line buffer still has its 7s from the given index on.
 fn line_kept(line: &[u8], from: usize) -> bool {
-    for i in from..line.len() {
-        if line[i] != 7 {
-            return false;
-        }
-    }
-    true
+    line.iter().skip(from).all(|kind| *kind == 7)
 }
 
 // Whether the working list still has all its 9s.
@@ -25,11 +20,9 @@ fn words_kept(words: &[u64], content: u64) -> bool {
 // Whether the bytes that must be kept are kept: after a refusal all that was lent, after a failure all bytes of the line buffer that follow the line,
 // and where no line fails the whole line buffer.
 pub fn is_kept(told: Told, line: &[u8], list: &[u32], words: &[u64], content: u64) -> bool {
-    if told.number == 0 {
-        return line_kept(line, 0);
+    match told {
+        Told::Accepted(_) | Told::NoneUpTo(_) => line_kept(line, 0),
+        Told::Failed { lamps, .. } => line_kept(line, lamps),
+        Told::Refused(_) => line_kept(line, 0) && list_kept(list) && words_kept(words, content),
     }
-    if told.number < 100 {
-        return line_kept(line, told.lamps);
-    }
-    line_kept(line, 0) & list_kept(list) & words_kept(words, content)
 }

@@ -1,30 +1,10 @@
 // The plain search: it runs every line of up to a number of lamps with every kind of end from every start, one after the other, and answers the
 // first that fails. Shorter lines come first, then lower kinds of lamps, then lower kinds of ends, and lower starts last (02, (f)). So the runs
 // are numbered, and one loop goes through the numbers.
-use crate::checking::{Told, none_fails, refused};
+use crate::checking::Told;
 use crate::shape::{Shape, shape_of};
-use lamp_line::{Ending, WorldState, failure_number};
-use line_run::RunAnswer;
-
-// The number of a search that has not come to an end, which no check tells.
-const UNDECIDED: u8 = 99;
-
-// The number of a run's ending: that of a failure, and 0 for Goal. Of the refusals only that of a start which is not marked counts as no failure.
-fn run_number(answer: RunAnswer) -> u8 {
-    match answer {
-        RunAnswer::Ended(ending, steps) => match ending {
-            Ending::Goal => 0,
-            Ending::Failure(kind) => failure_number(kind),
-        },
-        RunAnswer::Stopped(limit) => UNDECIDED,
-        RunAnswer::Refused(refusal) => {
-            if refusal == 14 {
-                return 0;
-            }
-            refused(refusal).number
-        }
-    }
-}
+use lamp_line::{Ending, Refusal, WorldState};
+use line_run::Ran;
 
 // A run of the search: its start, its kind of end, and the number of its line.
 #[derive(Clone, Copy)]
@@ -34,88 +14,57 @@ pub struct Trial {
     pub line: u32,
 }
 
-// The run with this number: the start changes first, then the kind of end, then the line. The remainders by 256 change nothing, and show that
-// the numbers are bytes.
+// The run with this number: the start changes first, then the kind of end, then the line.
 fn trial_of(number: u32, shape: Shape) -> Trial {
-    let starts = shape.worlds as u32;
-    let ends = shape.ends as u32 + 1;
-    if starts == 0 {
-        return Trial {
-            start: 0,
-            end: 0,
-            line: 0,
-        };
-    }
+    let starts = u32::from(shape.worlds);
+    let ends = u32::from(shape.ends) + 1;
     Trial {
-        start: (number % starts % 256) as u8,
-        end: (number / starts % ends % 256) as u8,
+        start: (number % starts) as u8,
+        end: (number / starts % ends) as u8,
         line: number / starts / ends,
     }
 }
 
-// The line with this number, at the end of the buffer: answers how many lamps it has, and a number that no line has if they do not fit. Lines
-// are numbered from the empty one on, by how many lamps they have and then by their kinds, which are the digits of the number.
-fn line_of(number: u32, kinds: u8, line: &mut [u8]) -> usize {
-    if kinds == 0 {
-        return 0;
-    }
+// The line with this number, at the end of the buffer, if it fits. Lines are numbered from the empty one on, by how many lamps they have and then by
+// their kinds, which are the digits of the number.
+fn line_of(number: u32, shape: Shape, line: &mut [u8]) -> Option<&[u8]> {
+    let kinds = u32::from(shape.kinds);
     let mut left = number;
-    let mut at = line.len();
-    while 0 < at {
+    for at in (0..line.len()).rev() {
         if left == 0 {
-            return line.len() - at;
+            return Some(&line[at + 1..]);
         }
-        at -= 1;
-        line[at] = ((left - 1) % kinds as u32 % 255) as u8 + 1;
-        left = (left - 1) / kinds as u32;
+        line[at] = ((left - 1) % kinds) as u8 + 1;
+        left = (left - 1) / kinds;
     }
-    if left == 0 {
-        return line.len();
-    }
-    65536
+    if left == 0 { Some(line) } else { None }
 }
 
-// The number of the ending of a trial, whose lamps are at the end of the buffer.
-fn run_trial(file: &[u8], trial: Trial, lamps: usize, line: &[u8]) -> u8 {
-    if line.len() < lamps {
-        return UNDECIDED;
-    }
-    let from = line.len() - lamps;
-    let answer = line_run::run_line(
-        file,
-        WorldState(trial.start),
-        &line[from..],
-        trial.end,
-        4294967295,
-    );
-    run_number(answer)
-}
-
-// The first trial that fails, of those with lines of up to `longest` lamps, which have to fit the buffer. Its line is left at the buffer's end.
-pub fn first_failing(file: &[u8], longest: usize, line: &mut [u8]) -> Told {
+// What the first trial that fails tells, of those with lines that fit the buffer. Its line is left at the buffer's end. The answer is None, which is
+// like no check's, where a run is stopped or the trials are too many.
+pub fn first_failing(file: &[u8], line: &mut [u8]) -> Option<Told> {
     let shape = shape_of(file);
     for number in 0..100000 {
         let trial = trial_of(number, shape);
-        let lamps = line_of(trial.line, shape.kinds, line);
-        if longest < lamps {
-            return none_fails(longest, 0);
-        }
-        let ending = run_trial(file, trial, lamps, line);
-        if ending != 0 {
-            return Told {
-                number: ending,
-                start: trial.start,
-                lamps: lamps,
-                end: trial.end,
-                pairs: 0,
-            };
+        let longest = line.len();
+        let Some(lamps) = line_of(trial.line, shape, line) else {
+            return Some(Told::NoneUpTo(longest));
+        };
+        let start = WorldState(trial.start);
+        match line_run::run_line(file, start, lamps, trial.end, u32::MAX) {
+            // Of the refusals that of a start which is not marked counts as no failure.
+            Ok(Ran::Ended(Ending::Goal, _)) | Err(Refusal::Start) => {}
+            Ok(Ran::Ended(Ending::Failure(kind), _)) => {
+                return Some(Told::Failed {
+                    number: kind.number(),
+                    start: trial.start,
+                    lamps: lamps.len(),
+                    end: trial.end,
+                });
+            }
+            Err(refusal) => return Some(Told::Refused(refusal)),
+            Ok(Ran::Stopped(_)) => return None,
         }
     }
-    Told {
-        number: UNDECIDED,
-        start: 0,
-        lamps: 0,
-        end: 0,
-        pairs: 0,
-    }
+    None
 }

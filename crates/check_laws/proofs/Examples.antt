@@ -2,7 +2,7 @@
 -- one kind of lamp; passing a lamp changes from one world state to the other. `ends` is the highest kind of end.
 use mathlib.Core.Path.{◌≡◌, refl}
 use mathlib.Core.Bool.{Bool, true, false, cond, ◌||◌, ◌&&◌}
-use mathlib.Core.Option.{Option, none, some}
+use Rattle.std.specs.Prelude.{Option, None, Some}
 use mathlib.Core.List.{List, [], ◌∷◌}
 use Prim.Native.Nat.{ℕ, ◌-◌}
 use lib.Dec.{eqb, leb}
@@ -29,8 +29,8 @@ cells ends a w column =
 abbrev targets : Option ProgramState → ProgramState → Result → Option ProgramState
 targets seen q r =
     cond (eqb q.0 0)
-    (cond (eqb r 0) (some (program_state 2)) seen)
-    (cond (eqb r 0) (some (program_state 0)) none)
+    (cond (eqb r 0) (Some (program_state 2)) seen)
+    (cond (eqb r 0) (Some (program_state 0)) None)
 
 -- The plan begins in state `first`, in world state 0. The goal is true at the line's end, in the world states and at the
 -- kinds of ends of `goal`.
@@ -69,7 +69,7 @@ at_once ends kinds fails =
       start = λ w. true;
       goal = λ w column. cond (fails w.0 column) false true;
       action = λ q. 0;
-      target = λ q r. none;
+      target = λ q r. None;
     }
 
 -- World states 0 and 1 are starts, and there are two kinds of ends. The plan looks, and passes the lamps that it sees. From one of the
@@ -92,28 +92,28 @@ crossing stuck =
       start = λ w. leb w.0 1;
       goal = λ w column. cond (eqb w.0 2 && eqb column 1) false true;
       action = λ q. q.0;
-      target = targets (some (program_state 1));
+      target = targets (Some (program_state 1));
     }
 
 -- The answers.
 pub record SmallChecks : Type 0 where
   -- The goal is true in both world states. State 0 is reached with each of them, so there are two pairs.
-  pub correct : verdict_of (small 0 0 (some (program_state 1)) (λ w end. true)) ≡ accepted 2
+  pub correct : verdict_of (small 0 0 (Some (program_state 1)) (λ w end. true)) ≡ accepted 2
   -- After one lamp, or any odd number of them, the goal is false.
-  pub odd_lamps : verdict_of (small 0 0 (some (program_state 1)) (λ w end. eqb w 0)) ≡ failed GoalFalse (world_state 0) (line_of 0 (1 ∷ []))
+  pub odd_lamps : verdict_of (small 0 0 (Some (program_state 1)) (λ w end. eqb w 0)) ≡ failed GoalFalse (world_state 0) (line_of 0 (1 ∷ []))
   -- State 0 looks at the lamp for ever.
-  pub circling : verdict_of (small 0 0 (some (program_state 0)) (λ w end. true)) ≡ failed Circles (world_state 0) (line_of 0 (1 ∷ []))
+  pub circling : verdict_of (small 0 0 (Some (program_state 0)) (λ w end. true)) ≡ failed Circles (world_state 0) (line_of 0 (1 ∷ []))
   -- State 0 has no branch for the result at a lamp.
-  pub no_branch : verdict_of (small 0 0 none (λ w end. true)) ≡ failed NoBranch (world_state 0) (line_of 0 (1 ∷ []))
+  pub no_branch : verdict_of (small 0 0 None (λ w end. true)) ≡ failed NoBranch (world_state 0) (line_of 0 (1 ∷ []))
   -- The plan passes a lamp first, but the line may be empty.
-  pub not_legal : verdict_of (small 0 1 none (λ w end. true)) ≡ failed NotLegal (world_state 0) (line_of 0 [])
+  pub not_legal : verdict_of (small 0 1 None (λ w end. true)) ≡ failed NotLegal (world_state 0) (line_of 0 [])
   -- There are two kinds of ends, and the goal is false at the second.
-  pub second_end : verdict_of (small 1 0 (some (program_state 1)) (λ w end. eqb end 0)) ≡ failed GoalFalse (world_state 0) (line_of 1 [])
+  pub second_end : verdict_of (small 1 0 (Some (program_state 1)) (λ w end. eqb end 0)) ≡ failed GoalFalse (world_state 0) (line_of 1 [])
   -- The goal is false at the second end after an odd number of lamps.
   pub odd_second_end :
-      verdict_of (small 1 0 (some (program_state 1)) (λ w end. eqb end 0 || eqb w 0)) ≡ failed GoalFalse (world_state 0) (line_of 1 (1 ∷ []))
+      verdict_of (small 1 0 (Some (program_state 1)) (λ w end. eqb end 0 || eqb w 0)) ≡ failed GoalFalse (world_state 0) (line_of 1 (1 ∷ []))
   -- Where the failure is at a lamp, the lowest kind of end is named.
-  pub lowest_end : verdict_of (small 1 0 none (λ w end. true)) ≡ failed NoBranch (world_state 0) (line_of 0 (1 ∷ []))
+  pub lowest_end : verdict_of (small 1 0 None (λ w end. true)) ≡ failed NoBranch (world_state 0) (line_of 0 (1 ∷ []))
   -- 02, (f). From start 0 the line [2] fails, from start 1 the line [1]: the line decides.
   pub line_before_start :
       verdict_of (at_once 0 2 (λ w c. cond (eqb w 0) (eqb c 2) (eqb c 1))) ≡ failed GoalFalse (world_state 1) (line_of 0 (1 ∷ []))

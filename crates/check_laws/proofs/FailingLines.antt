@@ -10,7 +10,8 @@ use Rattle.lamp_line.specs.Tables.{Tables, Line, Fits, world_state, kinds_of_end
 use Rattle.lamp_line.specs.inner.WellFormed.{WellFormed}
 use Rattle.lamp_line.specs.Endings.{kind_number}
 use Rattle.lamp_line.specs.Check.{Fails}
-use Rattle.lamp_line.specs.Run.{Pair, pair, Walk, ended, arrived, Run, ran, lamp_walk, along}
+use Rattle.lamp_line.specs.declared.Pair.{Pair}
+use Rattle.lamp_line.specs.Run.{pair, Walk, ended, arrived, Run, ran, lamp_walk, along}
 use Rattle.lamp_line.specs.Tables.{Beginning}
 use Rattle.run_laws.specs.inner.Pairs.{InRange, pair_number}
 use Rattle.run_laws.proofs.Walks.{arrived_in_range, arrived_at_lamp}

@@ -11,7 +11,8 @@ use Rattle.lamp_line.specs.declared.FailureKind.TheVariants.{NotLegal, NoBranch,
 use Rattle.lamp_line.specs.declared.Ending.TheVariants.{Goal, Failure}
 use Rattle.lamp_line.specs.Tables.{Tables}
 use Rattle.lamp_line.specs.Endings.{kind_number}
-use Rattle.lamp_line.specs.Run.{Pair, Walk, ended, arrived, is_final, judged, walk, lamp_walk}
+use Rattle.lamp_line.specs.declared.Pair.{Pair}
+use Rattle.lamp_line.specs.Run.{Walk, ended, arrived, is_final, judged, walk, lamp_walk}
 use Rattle.run_laws.specs.inner.Pairs.{InRange, pair_number}
 use Rattle.run_laws.proofs.Pairs.{pair_of_number}
 use Rattle.run_laws.proofs.Actions.{act_final}

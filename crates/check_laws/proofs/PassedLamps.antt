@@ -17,7 +17,8 @@ use Rattle.lamp_line.specs.Tables.{Tables, Line, Situation, Kinds, moves_on, pas
 use Rattle.lamp_line.specs.inner.WellFormed.{WellFormed}
 use Rattle.lamp_line.specs.Tables.{lamp_column, lamp_theory, plan_of}
 use Rattle.lamp_line.specs.Check.{situation}
-use Rattle.lamp_line.specs.Run.{Pair, pair, Walk, ended, arrived, lamp_walk}
+use Rattle.lamp_line.specs.declared.Pair.{Pair}
+use Rattle.lamp_line.specs.Run.{pair, Walk, ended, arrived, lamp_walk}
 use Rattle.plans.proofs.Executions.{LastStep, shared_beginning, same_length_same_execution, longest}
 use Rattle.run_laws.specs.inner.Pairs.{InRange, pair_number}
 use Rattle.run_laws.proofs.Steps.{steps_determined, end_kept, step_passes}

@@ -9,7 +9,8 @@ use Rattle.plans.specs.Execution.{Label, here, join, step}
 use Rattle.lamp_line.specs.Tables.{Tables, Kinds, Situation, world_state, lamp_column, lamp_theory, plan_of, line_of}
 use Rattle.lamp_line.specs.inner.WellFormed.{WellFormed}
 use Rattle.lamp_line.specs.Check.{Arrival, Reached}
-use Rattle.lamp_line.specs.Run.{Pair, pair, Walk, arrived, lamp_walk}
+use Rattle.lamp_line.specs.declared.Pair.{Pair}
+use Rattle.lamp_line.specs.Run.{pair, Walk, arrived, lamp_walk}
 use Rattle.plans.proofs.Executions.{last_step, same_length_same_execution}
 use Rattle.run_laws.specs.inner.Pairs.{InRange, pair_number}
 use Rattle.run_laws.proofs.Columns.{some_end}

@@ -14,7 +14,7 @@ use Rattle.lamp_line.specs.Tables.{Tables, world_state, lamp_theory, lamp_proble
 use Rattle.lamp_line.specs.inner.WellFormed.{WellFormed}
 use Rattle.lamp_line.specs.Endings.{kind_number, Ends, Leads}
 use Rattle.lamp_line.specs.Check.{rank, Counterexample, Reached, Accepts}
-use Rattle.lamp_line.specs.Run.{Pair}
+use Rattle.lamp_line.specs.declared.Pair.{Pair}
 use Rattle.run_laws.specs.inner.Pairs.{pair_number, pair_of}
 use Rattle.run_laws.proofs.Steps.{execution_in_range}
 use Rattle.search_laws.proofs.Keys.{line_rank_is, key_line_order}

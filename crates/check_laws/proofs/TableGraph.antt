@@ -8,7 +8,8 @@ use Rattle.lamp_line.specs.declared.WorldState.{WorldState}
 use Rattle.lamp_line.specs.Tables.{Tables, world_state, kinds_of_ends, lamp_column}
 use Rattle.lamp_line.specs.inner.WellFormed.{WellFormed}
 use Rattle.lamp_line.specs.Endings.{kind_number}
-use Rattle.lamp_line.specs.Run.{Pair, pair, lamp_walk}
+use Rattle.lamp_line.specs.declared.Pair.{Pair}
+use Rattle.lamp_line.specs.Run.{pair, lamp_walk}
 use Rattle.run_laws.specs.inner.Pairs.{InRange, pair_number, pair_of}
 use Rattle.run_laws.proofs.Pairs.{pair_number_bound, pair_number_in, pair_number_injective}
 use Rattle.run_laws.proofs.Walks.{arrived_in_range}

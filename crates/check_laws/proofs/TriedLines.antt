@@ -11,10 +11,6 @@ use Rattle.check_laws.specs.inner.Search.{line_start, line_lamps, at_start, at_l
 
 -- With kind 0 the member is a start, and the line is empty.
 module _ (E : List Entry) (s k : ℕ) (none : k ≡ 0) where
-  -- The line begins at this start.
-  pub empty_line_start : line_start E s k ≡ s
-  empty_line_start = ap (λ (k : ℕ). line_start E s k) none
-
   -- It has no lamps.
   pub empty_line_lamps : line_lamps E s k ≡ []
   empty_line_lamps = ap (λ (k : ℕ). line_lamps E s k) none

@@ -15,7 +15,8 @@ use Rattle.lamp_line.specs.declared.Ending.TheVariants.{Failure}
 use Rattle.lamp_line.specs.Tables.{Tables, Line, final, column, lamp_theory, plan_of, column_count}
 use Rattle.lamp_line.specs.inner.WellFormed.{WellFormed}
 use Rattle.lamp_line.specs.Check.{situation}
-use Rattle.lamp_line.specs.Run.{Pair, Move, ends, stays, passes, Walk, ended, arrived, is_final, judged, act, walk, lamp_walk}
+use Rattle.lamp_line.specs.declared.Pair.{Pair}
+use Rattle.lamp_line.specs.Run.{Move, ends, stays, passes, Walk, ended, arrived, is_final, judged, act, walk, lamp_walk}
 use Rattle.run_laws.specs.inner.Pairs.{InRange}
 use Rattle.run_laws.proofs.Steps.{steps_determined, step_passes}
 use Rattle.run_laws.proofs.Columns.{LineAt, line_at}

@@ -6,7 +6,8 @@ use Prim.Native.Nat.{ℕ}
 use native.Mathlib.Omega.{arith}
 use Rattle.lamp_line.specs.declared.Ending.{Ending}
 use Rattle.lamp_line.specs.Tables.{Tables, lamp_column, column, line_of}
-use Rattle.lamp_line.specs.Run.{Pair, Walk, ended, arrived, Run, ran, lamp_walk, along}
+use Rattle.lamp_line.specs.declared.Pair.{Pair}
+use Rattle.lamp_line.specs.Run.{Walk, ended, arrived, Run, ran, lamp_walk, along}
 use Rattle.run_laws.proofs.Runs.{run_after, along_ends, along_passes}
 use Rattle.fate_laws.specs.inner.Fates.{uncounted, ending_of}
 

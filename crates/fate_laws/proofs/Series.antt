@@ -6,7 +6,8 @@ use native.Mathlib.Nat.{zero-add, suc-add}
 use native.Mathlib.Omega.{arith}
 use Rattle.lamp_line.specs.Tables.{Tables}
 use Rattle.lamp_line.specs.inner.WellFormed.{WellFormed}
-use Rattle.lamp_line.specs.Run.{Pair, Move, ends, stays, passes, act}
+use Rattle.lamp_line.specs.declared.Pair.{Pair}
+use Rattle.lamp_line.specs.Run.{Move, ends, stays, passes, act}
 use Rattle.run_laws.specs.inner.Pairs.{InRange}
 use Rattle.run_laws.proofs.Actions.{stays_in_range}
 use Rattle.fate_laws.specs.inner.Series.{next, series}

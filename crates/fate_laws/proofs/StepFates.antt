@@ -9,7 +9,8 @@ use Rattle.lamp_line.specs.declared.Ending.{Ending}
 use Rattle.lamp_line.specs.declared.Ending.TheVariants.{Failure}
 use Rattle.lamp_line.specs.Tables.{Tables, column_count}
 use Rattle.lamp_line.specs.inner.WellFormed.{WellFormed}
-use Rattle.lamp_line.specs.Run.{Pair, Move, ends, stays, passes, ended, arrived, lamp_walk}
+use Rattle.lamp_line.specs.declared.Pair.{Pair}
+use Rattle.lamp_line.specs.Run.{Move, ends, stays, passes, ended, arrived, lamp_walk}
 use Rattle.run_laws.specs.inner.Pairs.{InRange}
 use Rattle.fate_laws.specs.inner.Fates.{uncounted}
 use Rattle.fate_laws.specs.inner.Series.{next, series}

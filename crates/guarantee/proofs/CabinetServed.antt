@@ -1,9 +1,6 @@
 -- Demand 3 for the cabinet: if the check accepts, every list of calls along any line is answered as owed; and along any line the cabinet
 -- follows the execution.
-use mathlib.Core.Path.{◌≡◌}
-use mathlib.Core.List.{List}
-use Prim.Native.Nat.{ℕ}
-use lib.ListN.{length}
+use Rattle.std.proofs.Common.{◌≡◌, List, ℕ, length}
 use Rattle.plans.specs.Execution.{Label, Correct}
 use Rattle.lamp_line.specs.declared.WorldState.{WorldState}
 use Rattle.lamp_line.specs.Tables.{Line, Situation, Beginning, lamp_problem, final}

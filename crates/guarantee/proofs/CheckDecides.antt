@@ -1,15 +1,8 @@
 -- The check decides: it accepts exactly the correct plans, the lines that fail are exactly those whose execution misses the goal, and its
 -- answer and the line buffer depend only on what is handed in.
-use mathlib.Core.Path.{◌≡◌, refl, sym, ap, ap₂, ◌∙◌}
-use mathlib.Core.Logic.{⊎_elim}
-use mathlib.Core.Option.{Option, none, some}
-use mathlib.Core.List.{List, [], ◌++◌}
-use Prim.Native.Nat.{ℕ}
-use native.Mathlib.Omega.{arith}
-use lib.ListN.{length, take, drop, take-append-drop}
-use lib.Seq.{length-take-le}
-use Rattle.lamp_line.specs.declared.WorldState.{WorldState}
-use Rattle.lamp_line.specs.declared.FailureKind.{FailureKind}
+use Rattle.std.proofs.Common.{◌≡◌, refl, sym, ap, ap₂, ◌∙◌, ⊎_elim, List, [], ◌++◌, ℕ, length, take, drop, take-append-drop, length-take-le}
+use Rattle.std.proofs.Common.{Option, None, Some, Ok, Err}
+use Rattle.lamp_line.specs.declared.Refusal.{Refusal}
 use Rattle.lamp_line.specs.Tables.{Tables, Line, line_of}
 use Rattle.lamp_line.specs.inner.WellFormed.{WellFormed}
 use Rattle.lamp_line.specs.Check.{Verdict, accepted, failed, Right}
@@ -17,12 +10,12 @@ use Rattle.check_laws.proofs.RunLeads.{goal_or_fails}
 use Rattle.check_laws.proofs.OneVerdict.{goal_not_fails, correct_never_fails, right_once}
 use Rattle.job_layout.specs.Layout.{head}
 use Rattle.job_layout.specs.JobTables.{tables_of}
+use Rattle.job_file.specs.Reading.{Opened}
 use Rattle.job_file.proofs.Opening.{opened_unrefused}
 use Rattle.job_tables.proofs.Ranges.{well_formed}
-use Rattle.plan_check.specs.declared.CheckAnswer.{CheckAnswer}
-use Rattle.plan_check.specs.declared.CheckAnswer.TheVariants as answer
-use Rattle.plan_check.specs.declared.Failure.{Failure as FailedAnswer}
-use Rattle.plan_check.specs.CheckAnswers.{failed_line, AnsweredRight, Lent, CheckedBy, check_refusal}
+use Rattle.line_finding.specs.declared.Failure.{Failure as FailedAnswer}
+use Rattle.plan_check.specs.declared.CheckError.TheVariants as error
+use Rattle.plan_check.specs.CheckAnswers.{failed_line, CheckAnswer, AnsweredRight, Lent, CheckedBy, check_refusal}
 use Rattle.guarantee.specs.CheckPromises.{AcceptedExactly, FailsExactly, SameChecks, CheckDetermined}
 
 -- ---- exactly when
@@ -38,16 +31,16 @@ fails_exactly s j opened start line beginning = (
 
 pub accepted_exactly : AcceptedExactly
 unfolding AnsweredRight Right
-accepted_exactly s (answer.Accepted count) before after not_refused checked =
+accepted_exactly s (Ok count) before after not_refused checked =
     let right = rw not_refused at checked in
     (λ _. right.0.correct, λ _. (count, refl))
-accepted_exactly s (answer.Failed f) before after not_refused checked =
+accepted_exactly s (Err (error.Failed f)) before after not_refused checked =
     let right = rw not_refused at checked in
     let wf = well_formed s (head s) (opened_unrefused s _ not_refused) in (
-      λ h. absurd (let z : ◌≡◌ {A = ℕ} 0 1 = cc in omega arith),
+      λ h. absurd cc,
       λ correct. absurd (correct_never_fails (tables_of s) wf correct f.kind f.start _ right.right.fails),
     )
-accepted_exactly s (answer.Refused number) before after not_refused checked = absurd (rw not_refused at checked)
+accepted_exactly s (Err (error.Refused because)) before after not_refused checked = absurd (rw not_refused at checked)
 
 -- ---- determined
 
@@ -58,34 +51,34 @@ same_parts n n' l l' e front rest = sym (take-append-drop n l) ∙ ap₂ (λ (a 
 -- Failures with equal parts are equal.
 same_failure : (f g : FailedAnswer) → f.kind ≡ g.kind → f.start ≡ g.start → f.lamps ≡ g.lamps → f.end ≡ g.end → f ≡ g
 same_failure f g kind start lamps end =
-    parts f.kind g.kind f.start g.start f.lamps g.lamps f.end g.end kind start lamps end
-  where
-    parts :
-        (k k' : FailureKind) (s s' : WorldState) (n n' e e' : ℕ) → k ≡ k' → s ≡ s' → n ≡ n' → e ≡ e' →
-        ◌≡◌ {A = FailedAnswer} (record { kind = k; start = s; lamps = n; end = e }) (record { kind = k'; start = s'; lamps = n'; end = e' })
-    parts k k' s s' n n' e e' same_kind same_start same_lamps same_end = rw (same_kind, same_start, same_lamps, same_end)
+    let same : ◌≡◌ {A = FailedAnswer}
+    (record { kind = f.kind; start = f.start; lamps = f.lamps; end = f.end })
+    (record { kind = g.kind; start = g.start; lamps = g.lamps; end = g.end }) = cc in
+    same
 
 -- A verdict's failing line.
 abbrev failing_line : Verdict → Line
 failing_line (accepted n) = line_of 0 []
 failing_line (failed kind start line) = line
 
+-- Two right answers for the same line buffer are equal, and leave it equal.
+abbrev pub RightOnce : (CheckAnswer ℕ → List ℕ → List ℕ → Type 0) → Type 0
+RightOnce IsRight =
+    (r r' : CheckAnswer ℕ) (line line' line'' : List ℕ) → IsRight r line line' → IsRight r' line line'' → (r ≡ r') × (line' ≡ line'')
+
 module _ (t : Tables) (wf : WellFormed t) where
-  -- Two right answers for the same line buffer are equal, and leave it equal.
-  pub answered_once :
-      (r r' : CheckAnswer) (line line' line'' : List ℕ) → AnsweredRight t r line line' → AnsweredRight t r' line line'' →
-      (r ≡ r') × (line' ≡ line'')
+  pub answered_once : RightOnce (AnsweredRight t)
   unfolding AnsweredRight
-  answered_once (answer.Accepted m) (answer.Accepted n) line line' line'' (right, same) (right', same') =
+  answered_once (Ok m) (Ok n) line line' line'' (right, same) (right', same') =
       let e = right_once t wf (accepted m) (accepted n) right right' in
       (cc, same ∙ sym same')
-  answered_once (answer.Accepted m) (answer.Failed f) line line' line'' (right, same) d =
+  answered_once (Ok m) (Err (error.Failed f)) line line' line'' (right, same) d =
       let e = right_once t wf (accepted m) (failed f.kind f.start (failed_line f line'')) right d.right in
-      absurd (let z : ◌≡◌ {A = ℕ} 0 1 = cc in omega arith)
-  answered_once (answer.Failed f) (answer.Accepted n) line line' line'' d (right, same) =
+      absurd cc
+  answered_once (Err (error.Failed f)) (Ok n) line line' line'' d (right, same) =
       let e = right_once t wf (failed f.kind f.start (failed_line f line')) (accepted n) d.right right in
-      absurd (let z : ◌≡◌ {A = ℕ} 0 1 = cc in omega arith)
-  answered_once (answer.Failed f) (answer.Failed g) line line' line'' d d' =
+      absurd cc
+  answered_once (Err (error.Failed f)) (Err (error.Failed g)) line line' line'' d d' =
       let e =
       right_once t wf (failed f.kind f.start (failed_line f line')) (failed g.kind g.start (failed_line g line''))
       d.right d'.right in
@@ -97,22 +90,27 @@ module _ (t : Tables) (wf : WellFormed t) where
       sym (length-take-le f.lamps line' d.within) ∙ ap length front ∙ length-take-le g.lamps line'' d'.within in
       let rest : drop f.lamps line' ≡ drop g.lamps line'' =
       d.others ∙ ap (λ (n : ℕ). drop n line) same_lamps ∙ sym d'.others in
-      (ap answer.Failed (same_failure f g same_kind same_start same_lamps same_end), same_parts f.lamps g.lamps line' line'' same_lamps front rest)
-  answered_once (answer.Accepted m) (answer.Refused n) line line' line'' d e = absurd e
-  answered_once (answer.Failed f) (answer.Refused n) line line' line'' d e = absurd e
-  answered_once (answer.Refused n) r' line line' line'' d e = absurd d
+      let same = same_failure f g same_kind same_start same_lamps same_end in
+      (cc, same_parts f.lamps g.lamps line' line'' same_lamps front rest)
+  answered_once (Err (error.Refused because)) r' line line' line'' d d' = absurd d
+  answered_once r (Err (error.Refused because)) line line' line'' d d' = absurd d'
 
-pub check_determined : CheckDetermined
-check_determined s r r' before after after' =
-    by (check_refusal s before) refl
+-- Two checks that are handed the same give the same answer and leave the same line buffer, if right answers for a file that is not refused do.
+pub same_checks :
+    (s : List ℕ) (IsRight : CheckAnswer ℕ → List ℕ → List ℕ → Type 0) → (Opened s (head s) → RightOnce IsRight) →
+    (r r' : CheckAnswer ℕ) (before after after' : Lent) → CheckedBy IsRight (check_refusal s before) r before after →
+    CheckedBy IsRight (check_refusal s before) r' before after' → SameChecks r r' after after'
+same_checks s IsRight once r r' before after after' = by (check_refusal s before) refl
   where
     by :
-        (o : Option ℕ) → check_refusal s before ≡ o →
-        CheckedBy answer.Refused (AnsweredRight (tables_of s)) o r before after →
-        CheckedBy answer.Refused (AnsweredRight (tables_of s)) o r' before after' → SameChecks r r' after after'
-    by (some number) e (is, same) (is', same') =
+        (o : Option Refusal) → check_refusal s before ≡ o → CheckedBy IsRight o r before after →
+        CheckedBy IsRight o r' before after' → SameChecks r r' after after'
+    by (Some because) e (is, same) (is', same') =
         record { same_answer = is ∙ sym is'; same_line = ap (λ (l : Lent). l.line) (same ∙ sym same') }
-    by none e right right' =
-        let wf = well_formed s (head s) (opened_unrefused s _ e) in
-        let once = answered_once (tables_of s) wf r r' before.line after.line after'.line right right' in
-        record { same_answer = once.0; same_line = once.1 }
+    by None e right right' =
+        let same = once (opened_unrefused s _ e) r r' before.line after.line after'.line right right' in
+        record { same_answer = same.0; same_line = same.1 }
+
+pub check_determined : CheckDetermined
+check_determined s =
+    same_checks s (AnsweredRight (tables_of s)) (λ opened. answered_once (tables_of s) (well_formed s (head s) opened))

@@ -1,13 +1,8 @@
 -- The replay decides: what it answers is so, and what is so it answers; and what the logs of a line are.
-use mathlib.Core.Path.{◌≡◌, refl, sym, ap, ◌∙◌}
-use mathlib.Core.Logic.{◌≢◌, ◌↔◌}
-use mathlib.Core.Option.{Option, none, some}
-use mathlib.Core.List.{List, ◌++◌}
-use Prim.Native.Nat.{ℕ}
-use native.Mathlib.Omega.{arith}
-use lib.ListN.{length}
+use Rattle.std.proofs.Common.{◌≡◌, refl, sym, ◌∙◌, ◌≢◌, ◌↔◌, List, ◌++◌, ℕ, length, Option, None, Some, Ok, Err, arith}
 use Rattle.plans.specs.Execution.{Label}
 use Rattle.plans.proofs.Executions.{forever_before}
+use Rattle.lamp_line.specs.declared.Refusal.{Refusal}
 use Rattle.lamp_line.specs.declared.FailureKind.TheVariants.{NotLegal, NoBranch, Circles, GoalFalse}
 use Rattle.lamp_line.specs.declared.Ending.{Ending}
 use Rattle.lamp_line.specs.declared.Ending.TheVariants.{Goal, Failure}
@@ -19,51 +14,49 @@ use Rattle.lamp_line.specs.Replay.{Gives}
 use Rattle.log_laws.proofs.Logs.{beginning_possible, empty_possible, possible_everywhere, first_once, entry_of_plan, rest_gives, forever_gives}
 use Rattle.job_layout.specs.JobTables.{tables_of}
 use Rattle.job_tables.proofs.Ranges.{well_formed}
-use Rattle.log_replay.specs.declared.ReplayAnswer.{ReplayAnswer}
-use Rattle.log_replay.specs.declared.ReplayAnswer.TheVariants as answer
-use Rattle.log_replay.specs.ReplayAnswers.{replay_refusals, ReplayedRight, ReplayedBy}
+use Rattle.log_replay.specs.declared.ReplayError.TheVariants.{ImpossibleAt, Refused}
+use Rattle.log_replay.specs.ReplayAnswers.{replay_refusals, ReplayAnswer, ReplayedRight, ReplayedBy}
 use Rattle.guarantee.specs.ReplayPromises.{PossibleExactly, PlaceExactly, ReplayDetermined, BeginningPossible, EmptyPossible, EntryOfPlan, EntriesCounted, CirclingGoesOn}
 
 -- ---- the answers
 
 pub possible_exactly : PossibleExactly
 unfolding ReplayedRight
-possible_exactly s log answer.Possible not_refused replayed = (λ _. rw not_refused at replayed, λ _. refl)
-possible_exactly s log (answer.ImpossibleAt place) not_refused replayed =
+possible_exactly s log (Ok _) not_refused replayed = (λ _. rw not_refused at replayed, λ _. refl)
+possible_exactly s log (Err (ImpossibleAt place)) not_refused replayed =
     let first = rw not_refused at replayed in (
-      λ e. absurd (let z : ◌≡◌ {A = ℕ} 0 1 = cc in omega arith),
+      λ e. absurd cc,
       λ possible. absurd (possible_everywhere (tables_of s) possible first),
     )
-possible_exactly s log (answer.Refused number) not_refused replayed = absurd (rw not_refused at replayed)
+possible_exactly s log (Err (Refused because)) not_refused replayed = absurd (rw not_refused at replayed)
 
 pub place_exactly : PlaceExactly
 unfolding ReplayedRight
-place_exactly s log answer.Possible not_refused replayed place =
+place_exactly s log (Ok _) not_refused replayed place =
     let possible = rw not_refused at replayed in (
-      λ e. absurd (let z : ◌≡◌ {A = ℕ} 0 1 = cc in omega arith),
+      λ e. absurd cc,
       λ first. absurd (possible_everywhere (tables_of s) possible first),
     )
-place_exactly s log (answer.ImpossibleAt place') not_refused replayed place =
+place_exactly s log (Err (ImpossibleAt place')) not_refused replayed place =
     let first' = rw not_refused at replayed in (
       λ e. let same : place' ≡ place = cc in rw same at first',
-      λ first. ap answer.ImpossibleAt (first_once (tables_of s) first' first),
+      λ first. let same = first_once (tables_of s) first' first in cc,
     )
-place_exactly s log (answer.Refused number) not_refused replayed place = absurd (rw not_refused at replayed)
+place_exactly s log (Err (Refused because)) not_refused replayed place = absurd (rw not_refused at replayed)
 
 pub replay_determined : ReplayDetermined
 unfolding ReplayedRight
 replay_determined s log r r' = by (refusal (replay_refusals s log)) r r'
   where
-    by : (o : Option ℕ) (r r' : ReplayAnswer) → ReplayedBy o (tables_of s) log r → ReplayedBy o (tables_of s) log r' → r ≡ r'
-    by (some number) r r' e e' = e ∙ sym e'
-    by none answer.Possible answer.Possible possible possible' = refl
-    by none answer.Possible (answer.ImpossibleAt place) possible first = absurd (possible_everywhere (tables_of s) possible first)
-    by none (answer.ImpossibleAt place) answer.Possible first possible = absurd (possible_everywhere (tables_of s) possible first)
-    by none (answer.ImpossibleAt place) (answer.ImpossibleAt place') first first' =
-        ap answer.ImpossibleAt (first_once (tables_of s) first first')
-    by none (answer.Refused number) r' none' right = absurd none'
-    by none answer.Possible (answer.Refused number) right none' = absurd none'
-    by none (answer.ImpossibleAt place) (answer.Refused number) right none' = absurd none'
+    by : (o : Option Refusal) (r r' : ReplayAnswer) → ReplayedBy o (tables_of s) log r → ReplayedBy o (tables_of s) log r' → r ≡ r'
+    by (Some because) r r' e e' = e ∙ sym e'
+    by None (Ok _) (Ok _) possible possible' = refl
+    by None (Ok _) (Err (ImpossibleAt place)) possible first = absurd (possible_everywhere (tables_of s) possible first)
+    by None (Err (ImpossibleAt place)) (Ok _) first possible = absurd (possible_everywhere (tables_of s) possible first)
+    by None (Err (ImpossibleAt place)) (Err (ImpossibleAt place')) first first' =
+        let same = first_once (tables_of s) first first' in cc
+    by None (Err (Refused because)) r' none' right = absurd none'
+    by None r (Err (Refused because)) right none' = absurd none'
 
 -- ---- logs
 

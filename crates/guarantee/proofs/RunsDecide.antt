@@ -1,19 +1,14 @@
 -- Demand 2 for the run: its answers are those of the execution, for every line and every limit.
-use mathlib.Core.Path.{◌≡◌, refl, sym, ap, ◌∙◌}
-use mathlib.Core.Logic.{◌↔◌}
-use mathlib.Core.Bool.{Bool, true, false, cond}
-use mathlib.Core.List.{List}
-use Prim.Native.Nat.{ℕ, ◌+◌, ◌*◌, ◌≤◌, ◌<◌}
-use native.Mathlib.Omega.{arith}
-use borrow.Author.Tests.{leb-true, leb-false, le-leb, lt-leb}
-use lib.Dec.{leb}
-use lib.ListN.{length}
+use Rattle.std.proofs.Common.{◌≡◌, refl, sym, ◌∙◌, ◌↔◌, Bool, true, false, cond, List, length, ℕ, ◌+◌, ◌*◌, ◌≤◌, ◌<◌, Ok, arith}
+use Rattle.std.proofs.Common.{leb, leb-true, leb-false, le-leb}
+use borrow.Author.Tests.{lt-leb}
 use Rattle.plans.proofs.Executions.{same_length_same_execution}
 use Rattle.lamp_line.specs.declared.WorldState.{WorldState}
 use Rattle.lamp_line.specs.declared.FailureKind.TheVariants.{Circles}
 use Rattle.lamp_line.specs.declared.Ending.{Ending}
 use Rattle.lamp_line.specs.declared.Ending.TheVariants.{Failure}
 use Rattle.lamp_line.specs.Tables.{Line, lamp_theory, plan_of}
+use Rattle.lamp_line.specs.Refusals.{Answer}
 use Rattle.lamp_line.specs.Run.{Run, ran, run, limited, within, stopped}
 use Rattle.lamp_line.specs.Executions.{Comes}
 use Rattle.lamp_line.proofs.Products.{product_le}
@@ -25,7 +20,8 @@ use Rattle.job_layout.specs.Layout.{head}
 use Rattle.job_layout.specs.JobTables.{tables_of}
 use Rattle.job_tables.proofs.Ranges.{states_are, worlds_are, well_formed}
 use Rattle.lamp_walk.proofs.WalkLoop.{few_steps}
-use Rattle.line_run.specs.declared.RunAnswer.TheVariants as answer
+use Rattle.line_run.specs.declared.Ran.{Ran}
+use Rattle.line_run.specs.declared.Ran.TheVariants.{Ended, Stopped}
 use Rattle.line_run.specs.RunAnswers.{run_answer_of, run_answer}
 use Rattle.line_refusals.proofs.LineLaws.{line_not_wrong}
 use Rattle.line_run.proofs.RunRefusals.{run_by_refusals}
@@ -35,16 +31,16 @@ use Rattle.line_refusals.proofs.Unrefused.{UnrefusedLine, unrefused_line}
 -- ---- the limit: an ending is within it, and Stopped means that the ending is beyond it
 
 ends_within :
-    (limit k k' : ℕ) (x x' : Ending) (b : Bool) → leb k limit ≡ b →
-    run_answer_of (cond b (within x k) (stopped limit)) ≡ answer.Ended x' k' → (ran x k ≡ ran x' k') × (k' ≤ limit)
-ends_within limit k k' x x' true e h = let same : k ≡ k' = cc in (cc, omega (arith, leb-true k limit e))
-ends_within limit k k' x x' false e h = absurd (let z : ◌≡◌ {A = ℕ} 0 1 = cc in omega arith)
+    {r : Answer Ran} (limit k k' : ℕ) (x x' : Ending) (b : Bool) → leb k limit ≡ b →
+    r ≡ Ok (run_answer_of (cond b (within x k) (stopped limit))) → r ≡ Ok (Ended x' k') → (ran x k ≡ ran x' k') × (k' ≤ limit)
+ends_within limit k k' x x' true e is h = let same : k ≡ k' = cc in (cc, omega (arith, leb-true k limit e))
+ends_within limit k k' x x' false e is h = absurd cc
 
 stops_beyond :
-    (limit k n : ℕ) (x : Ending) (b : Bool) → leb k limit ≡ b →
-    run_answer_of (cond b (within x k) (stopped limit)) ≡ answer.Stopped n → (n ≡ limit) × (limit < k)
-stops_beyond limit k n x true e h = absurd (let z : ◌≡◌ {A = ℕ} 0 1 = cc in omega arith)
-stops_beyond limit k n x false e h = (cc, leb-false k limit e)
+    {r : Answer Ran} (limit k n : ℕ) (x : Ending) (b : Bool) → leb k limit ≡ b →
+    r ≡ Ok (run_answer_of (cond b (within x k) (stopped limit))) → r ≡ Ok (Stopped n) → (n ≡ limit) × (limit < k)
+stops_beyond limit k n x true e is h = absurd cc
+stops_beyond limit k n x false e is h = (cc, leb-false k limit e)
 
 -- ---- a run that is not refused
 
@@ -53,7 +49,7 @@ module _ {s : List ℕ} {start : WorldState} {line : Line} (unrefused : Unrefuse
   defined = run (tables_of s) start line
 
   -- Its answer is what the definition gives within the limit.
-  pub answers : (limit : ℕ) → run_answer s start line limit ≡ run_answer_of (limited limit defined)
+  pub answers : (limit : ℕ) → run_answer s start line limit ≡ Ok (run_answer_of (limited limit defined))
   answers limit =
       run_by_refusals s start line limit unrefused.opened
       ∙ rw (
@@ -68,16 +64,16 @@ module _ {s : List ℕ} {start : WorldState} {line : Line} (unrefused : Unrefuse
 
   -- An answer with an ending is the definition's.
   pub ended_so :
-      (limit : ℕ) (x : Ending) (k : ℕ) → run_answer s start line limit ≡ answer.Ended x k → (defined ≡ ran x k) × (k ≤ limit)
+      (limit : ℕ) (x : Ending) (k : ℕ) → run_answer s start line limit ≡ Ok (Ended x k) → (defined ≡ ran x k) × (k ≤ limit)
   ended_so limit x k h = by defined refl
     where
       by : (r : Run) → defined ≡ r → (defined ≡ ran x k) × (k ≤ limit)
       by (ran x' k') e =
-          let ended = ends_within limit k' k x' x (leb k' limit) refl (sym (answers limit ∙ rw e) ∙ h) in
+          let ended = ends_within limit k' k x' x (leb k' limit) refl (answers limit ∙ rw e) h in
           (e ∙ ended.0, ended.1)
 
   -- If the definition ends within the limit, the answer is that ending.
-  pub ends_so : (limit : ℕ) (x : Ending) (k : ℕ) → defined ≡ ran x k → k ≤ limit → run_answer s start line limit ≡ answer.Ended x k
+  pub ends_so : (limit : ℕ) (x : Ending) (k : ℕ) → defined ≡ ran x k → k ≤ limit → run_answer s start line limit ≡ Ok (Ended x k)
   ends_so limit x k e k≤ = answers limit ∙ rw (e, le-leb k limit k≤)
 
   -- The definition's steps are few enough for a 32-bit limit.
@@ -91,7 +87,7 @@ module _ {s : List ℕ} {start : WorldState} {line : Line} (unrefused : Unrefuse
       )
 
   stopped_so :
-      (limit n : ℕ) → run_answer s start line limit ≡ answer.Stopped n →
+      (limit n : ℕ) → run_answer s start line limit ≡ Ok (Stopped n) →
       (n ≡ limit) × ((x : Ending) (k : ℕ) → Comes (tables_of s) x k start line → limit < k)
   stopped_so limit n h = by defined refl
     where
@@ -99,7 +95,7 @@ module _ {s : List ℕ} {start : WorldState} {line : Line} (unrefused : Unrefuse
           (r : Run) → defined ≡ r →
           (n ≡ limit) × ((x : Ending) (k : ℕ) → Comes (tables_of s) x k start line → limit < k)
       by (ran x' k') e =
-          let stops = stops_beyond limit k' n x' (leb k' limit) refl (sym (answers limit ∙ rw e) ∙ h) in (
+          let stops = stops_beyond limit k' n x' (leb k' limit) refl (answers limit ∙ rw e) h in (
             stops.0,
             λ x k c. let same : ran x k ≡ ran x' k' = sym ((comes x k).1 c) ∙ e in
                 let same_count : k ≡ k' = cc in omega (arith, stops.1),
@@ -107,12 +103,12 @@ module _ {s : List ℕ} {start : WorldState} {line : Line} (unrefused : Unrefuse
 
   stops_so :
       (limit n : ℕ) → n ≡ limit → ((x : Ending) (k : ℕ) → Comes (tables_of s) x k start line → limit < k) →
-      run_answer s start line limit ≡ answer.Stopped n
+      run_answer s start line limit ≡ Ok (Stopped n)
   stops_so limit n is_limit beyond = by defined refl
     where
-      by : (r : Run) → defined ≡ r → run_answer s start line limit ≡ answer.Stopped n
+      by : (r : Run) → defined ≡ r → run_answer s start line limit ≡ Ok (Stopped n)
       by (ran x' k') e =
-          answers limit ∙ (rw (e, lt-leb k' limit (beyond x' k' ((comes x' k').0 e))) (ap answer.Stopped (sym is_limit)))
+          answers limit ∙ rw (e, lt-leb k' limit (beyond x' k' ((comes x' k').0 e)), is_limit)
 
 -- ---- the promises
 

@@ -1,5 +1,5 @@
 -- The user's demand 3 for the cabinet (01, "The cabinet"): what its operations answer on the bytes of a job file, call after call.
-use Rattle.std.specs.Prelude.{◌≡◌, List, map, ℕ, ◌≤◌, length}
+use Rattle.std.specs.Prelude.{◌≡◌, List, map, ℕ, ◌≤◌, length, Ok}
 use Rattle.plans.specs.Execution.{Label, result_of}
 use Rattle.lamp_line.specs.declared.ProgramState.{ProgramState}
 use Rattle.lamp_line.specs.declared.WorldState.{WorldState}
@@ -9,10 +9,8 @@ use Rattle.lamp_line.specs.Executions.{Execution}
 use Rattle.job_layout.specs.declared.Job.{Job}
 use Rattle.job_layout.specs.JobTables.{tables_of}
 use Rattle.job_file.specs.Reading.{Opened}
-use Rattle.cabinet.specs.declared.BeginAnswer.TheVariants as begin
 use Rattle.cabinet.specs.CabinetAnswers.{begin_answer}
 use Rattle.cabinet.specs.Calls.{Call, report_call, left_by, Reports, Owed}
-use Rattle.plan_check.specs.declared.CheckAnswer.TheVariants as check
 use Rattle.plan_check.specs.CheckAnswers.{Lent, Checked}
 
 -- The cabinet begins with the line's number of lamps. The execution along the line from the start reaches state S, where the goal is true.
@@ -20,7 +18,7 @@ use Rattle.plan_check.specs.CheckAnswers.{Lent, Checked}
 -- answered as owed, and it leaves state S and the number of lamps that the execution leaves.
 pub record Served (s : List ℕ) (start : WorldState) (line : Line) : Type 0 where
   pub begun : Cabinet
-  pub begins : begin_answer s (length line.lamps) ≡ begin.Begun begun
+  pub begins : begin_answer s (length line.lamps) ≡ Ok begun
   pub labels : List Label
   pub last : Situation
   pub execution : Execution (tables_of s) start line labels (final (tables_of s)) last
@@ -33,7 +31,7 @@ pub record Served (s : List ℕ) (start : WorldState) (line : Line) : Type 0 whe
 -- If the check accepts, every cabinet is served so: from every marked start, along every line of the job with at most 65,535 lamps.
 abbrev pub CabinetServed : Type 0
 CabinetServed =
-    (s : List ℕ) (count : ℕ) (before after : Lent) → Checked s (check.Accepted count) before after →
+    (s : List ℕ) (count : ℕ) (before after : Lent) → Checked s (Ok count) before after →
     (start : WorldState) (line : Line) → Beginning (tables_of s) start line → length line.lamps ≤ 65535 →
     Served s start line
 
@@ -42,6 +40,6 @@ CabinetServed =
 abbrev pub CabinetFollows : Type 0
 CabinetFollows =
     (s : List ℕ) (j : Job) → Opened s j → (start : WorldState) (line : Line) →
-    Beginning (tables_of s) start line → (begun : Cabinet) → begin_answer s (length line.lamps) ≡ begin.Begun begun →
+    Beginning (tables_of s) start line → (begun : Cabinet) → begin_answer s (length line.lamps) ≡ Ok begun →
     (ls : List Label) (q : ProgramState) (at : Situation) → Execution (tables_of s) start line ls q at →
     left_by s begun (map (λ l. report_call (result_of l)) ls) ≡ record { state = q; lamps = length at.rest.lamps }

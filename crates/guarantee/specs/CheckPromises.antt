@@ -1,6 +1,5 @@
 -- The user's demand 3 for the check (01, "The check"): what its answers mean, beyond what its contract says of each call.
-use Rattle.std.specs.Prelude.{◌≡◌, ◌↔◌, List, ℕ, ◌≤◌, length}
-use Rattle.std.proofs.Math.Option.{none}
+use Rattle.std.specs.Prelude.{◌≡◌, ◌↔◌, List, ℕ, ◌≤◌, length, None, Ok, Err}
 use Rattle.plans.specs.Execution.{Correct}
 use Rattle.lamp_line.specs.declared.WorldState.{WorldState}
 use Rattle.lamp_line.specs.declared.FailureKind.{FailureKind}
@@ -12,12 +11,11 @@ use Rattle.lamp_line.specs.Check.{situation, Fails}
 use Rattle.job_layout.specs.declared.Job.{Job}
 use Rattle.job_layout.specs.JobTables.{tables_of}
 use Rattle.job_file.specs.Reading.{Opened}
-use Rattle.line_run.specs.declared.RunAnswer.TheVariants as run
+use Rattle.line_run.specs.declared.Ran.TheVariants.{Ended}
 use Rattle.line_run.specs.RunAnswers.{run_answer}
-use Rattle.plan_check.specs.declared.Failure.{Failure as FailedAnswer}
-use Rattle.plan_check.specs.declared.CheckAnswer.{CheckAnswer}
-use Rattle.plan_check.specs.declared.CheckAnswer.TheVariants as answer
-use Rattle.plan_check.specs.CheckAnswers.{failed_line, Lent, check_refusal, Checked}
+use Rattle.line_finding.specs.declared.Failure.{Failure as FailedAnswer}
+use Rattle.plan_check.specs.declared.CheckError.TheVariants as error
+use Rattle.plan_check.specs.CheckAnswers.{failed_line, CheckAnswer, Lent, check_refusal, Checked}
 
 -- ---- exactly when
 
@@ -25,9 +23,9 @@ use Rattle.plan_check.specs.CheckAnswers.{failed_line, Lent, check_refusal, Chec
 -- on all lines, however long, and with every kind of end.
 abbrev pub AcceptedExactly : Type 0
 AcceptedExactly =
-    (s : List ℕ) (r : CheckAnswer) (before after : Lent) →
-    check_refusal s before ≡ none → Checked s r before after →
-    ((count : ℕ) × (r ≡ answer.Accepted count)) ↔ Correct (lamp_problem (tables_of s)) (plan_of (tables_of s))
+    (s : List ℕ) (r : CheckAnswer ℕ) (before after : Lent) →
+    check_refusal s before ≡ None → Checked s r before after →
+    ((count : ℕ) × (r ≡ Ok count)) ↔ Correct (lamp_problem (tables_of s)) (plan_of (tables_of s))
 
 -- A line has one of the four failure kinds from a start exactly when the execution there does not reach state S with a true goal.
 abbrev pub FailsExactly : Type 0
@@ -39,14 +37,14 @@ FailsExactly =
 -- ---- determined
 
 -- The same answer, and the same bytes in the line buffer.
-pub record SameChecks {A : Type 0} (r r' : A) (after after' : Lent) : Type 0 where
+pub record SameChecks (r r' : CheckAnswer ℕ) (after after' : Lent) : Type 0 where
   pub same_answer : r ≡ r'
   pub same_line : after.line ≡ after'.line
 
 -- Two checks that are handed the same give the same answer and leave the same line buffer.
 abbrev pub CheckDetermined : Type 0
 CheckDetermined =
-    (s : List ℕ) (r r' : CheckAnswer) (before after after' : Lent) →
+    (s : List ℕ) (r r' : CheckAnswer ℕ) (before after after' : Lent) →
     Checked s r before after → Checked s r' before after' → SameChecks r r' after after'
 
 -- ---- runs after a check
@@ -56,12 +54,12 @@ CheckDetermined =
 pub record RunEnds (s : List ℕ) (start : WorldState) (line : Line) (x : Ending) : Type 0 where
   pub steps : ℕ
   pub few : steps ≤ 4294967295
-  pub ends : (limit : ℕ) → steps ≤ limit → run_answer s start line limit ≡ run.Ended x steps
+  pub ends : (limit : ℕ) → steps ≤ limit → run_answer s start line limit ≡ Ok (Ended x steps)
 
 -- If the check accepts, every run from a marked start along a line of the job with at most 65,535 lamps ends in Goal.
 abbrev pub AcceptedRuns : Type 0
 AcceptedRuns =
-    (s : List ℕ) (count : ℕ) (before after : Lent) → Checked s (answer.Accepted count) before after →
+    (s : List ℕ) (count : ℕ) (before after : Lent) → Checked s (Ok count) before after →
     (start : WorldState) (line : Line) → Beginning (tables_of s) start line → length line.lamps ≤ 65535 →
     RunEnds s start line Goal
 
@@ -69,5 +67,5 @@ AcceptedRuns =
 -- that failure.
 abbrev pub FailedRuns : Type 0
 FailedRuns =
-    (s : List ℕ) (f : FailedAnswer) (before after : Lent) → Checked s (answer.Failed f) before after →
+    (s : List ℕ) (f : FailedAnswer) (before after : Lent) → Checked s (Err (error.Failed f)) before after →
     RunEnds s f.start (failed_line f after.line) (Failure f.kind)

@@ -1,6 +1,5 @@
 -- Request (a) of 02: what the answers of the replay mean, beyond what its contract says of each call, and what a log is.
-use Rattle.std.specs.Prelude.{◌≡◌, ◌≢◌, ◌↔◌, List, [], ◌∷◌, ◌++◌, ℕ, length}
-use Rattle.std.proofs.Math.Option.{none}
+use Rattle.std.specs.Prelude.{◌≡◌, ◌≢◌, ◌↔◌, List, [], ◌∷◌, ◌++◌, ℕ, length, None, Ok, Err}
 use Rattle.plans.specs.Execution.{Label, action_of}
 use Rattle.lamp_line.specs.declared.WorldState.{WorldState}
 use Rattle.lamp_line.specs.declared.FailureKind.TheVariants.{Circles}
@@ -13,26 +12,25 @@ use Rattle.lamp_line.specs.Replay.{Gives, Possible, FirstImpossible}
 use Rattle.job_layout.specs.declared.Job.{Job}
 use Rattle.job_layout.specs.JobTables.{tables_of}
 use Rattle.job_file.specs.Reading.{Opened}
-use Rattle.log_replay.specs.declared.ReplayAnswer.{ReplayAnswer}
-use Rattle.log_replay.specs.declared.ReplayAnswer.TheVariants as answer
+use Rattle.log_replay.specs.declared.ReplayError.TheVariants.{ImpossibleAt}
 use Rattle.log_replay.specs.Logs.{log_of}
-use Rattle.log_replay.specs.ReplayAnswers.{replay_refusals, Replayed}
+use Rattle.log_replay.specs.ReplayAnswers.{replay_refusals, ReplayAnswer, Replayed}
 
 -- ---- the answers
 
 -- A statement about the answer of every replay that is not refused.
 abbrev OfEveryReplay : (List ℕ → List ℕ → ReplayAnswer → Type 0) → Type 0
-OfEveryReplay Says = (s log : List ℕ) (r : ReplayAnswer) → refusal (replay_refusals s log) ≡ none → Replayed s log r → Says s log r
+OfEveryReplay Says = (s log : List ℕ) (r : ReplayAnswer) → refusal (replay_refusals s log) ≡ None → Replayed s log r → Says s log r
 
 -- A log is answered to be possible exactly when some start and some line give it.
 abbrev pub PossibleExactly : Type 0
-PossibleExactly = OfEveryReplay (λ s log r. (r ≡ answer.Possible) ↔ Possible (tables_of s) (log_of log))
+PossibleExactly = OfEveryReplay (λ s log r. (r ≡ Ok tt) ↔ Possible (tables_of s) (log_of log))
 
 -- A place is answered exactly when its entry is the first with which no start and line give the log so far.
 abbrev pub PlaceExactly : Type 0
 PlaceExactly =
     OfEveryReplay (λ s log r. (place : ℕ) →
-    (r ≡ answer.ImpossibleAt place) ↔ FirstImpossible (tables_of s) (log_of log) place)
+    (r ≡ Err (ImpossibleAt place)) ↔ FirstImpossible (tables_of s) (log_of log) place)
 
 -- Two replays that are handed the same give the same answer.
 abbrev pub ReplayDetermined : Type 0

@@ -1,6 +1,5 @@
 -- The user's demand 2: the answers of the run (01, "One run") are those of the execution of 001, Definitions 2 and 4.
-use Rattle.std.specs.Prelude.{◌≡◌, ◌↔◌, List, ℕ, ◌+◌, ◌*◌, ◌≤◌, ◌<◌, length}
-use Rattle.std.proofs.Math.Option.{none}
+use Rattle.std.specs.Prelude.{◌≡◌, ◌↔◌, List, ℕ, ◌+◌, ◌*◌, ◌≤◌, ◌<◌, length, None, Ok}
 use Rattle.plans.specs.Execution.{Label, T*, Forever}
 use Rattle.lamp_line.specs.declared.ProgramState.{ProgramState}
 use Rattle.lamp_line.specs.declared.WorldState.{WorldState}
@@ -9,47 +8,48 @@ use Rattle.lamp_line.specs.declared.Ending.{Ending}
 use Rattle.lamp_line.specs.declared.Ending.TheVariants.{Failure}
 use Rattle.lamp_line.specs.Tables.{Line, column, Situation, lamp_theory, plan_of}
 use Rattle.lamp_line.specs.Refusals.{refusal}
-use Rattle.lamp_line.specs.Run.{Pair, lamp_walk}
+use Rattle.lamp_line.specs.declared.Pair.{Pair}
+use Rattle.lamp_line.specs.Run.{lamp_walk}
 use Rattle.lamp_line.specs.Check.{situation}
 use Rattle.lamp_line.specs.Executions.{Comes}
 use Rattle.lamp_line.specs.WalkMeaning.{WalkSays}
 use Rattle.job_layout.specs.declared.Job.{Job}
 use Rattle.job_layout.specs.JobTables.{tables_of}
 use Rattle.job_file.specs.Reading.{Opened}
-use Rattle.line_run.specs.declared.RunAnswer.TheVariants as answer
 use Rattle.line_refusals.specs.LineRefusals.{line_refusals}
+use Rattle.line_run.specs.declared.Ran.TheVariants.{Ended, Stopped}
 use Rattle.line_run.specs.RunAnswers.{run_answer}
 
 -- ---- the run
 
 -- A statement about every run that is not refused, from a start along a line.
 abbrev OfEveryRun : (List ℕ → WorldState → Line → Type 0) → Type 0
-OfEveryRun Says = (s : List ℕ) (start : WorldState) (line : Line) → refusal (line_refusals s start line) ≡ none → Says s start line
+OfEveryRun Says = (s : List ℕ) (start : WorldState) (line : Line) → refusal (line_refusals s start line) ≡ None → Says s start line
 
 -- An ending with k steps is answered exactly when the execution reaches that ending with k counted steps and the limit allows k.
 abbrev pub RunEndsExactly : Type 0
 RunEndsExactly =
     OfEveryRun (λ s start line. (limit : ℕ) (x : Ending) (k : ℕ) →
-    (run_answer s start line limit ≡ answer.Ended x k) ↔ (Comes (tables_of s) x k start line × (k ≤ limit)))
+    (run_answer s start line limit ≡ Ok (Ended x k)) ↔ (Comes (tables_of s) x k start line × (k ≤ limit)))
 
 -- Stopped is answered exactly when the execution has no ending within the limit; the number in the answer is the limit.
 abbrev pub RunStopsExactly : Type 0
 RunStopsExactly =
     OfEveryRun (λ s start line. (limit n : ℕ) →
-    (run_answer s start line limit ≡ answer.Stopped n)
+    (run_answer s start line limit ≡ Ok (Stopped n))
     ↔ ((n ≡ limit) × ((x : Ending) (k : ℕ) → Comes (tables_of s) x k start line → limit < k)))
 
 -- With the greatest 32-bit limit, the answer is failure 3 exactly for executions that never end.
 abbrev pub RunCirclesExactly : Type 0
 RunCirclesExactly =
     OfEveryRun (λ s start line.
-    ((k : ℕ) × (run_answer s start line 4294967295 ≡ answer.Ended (Failure Circles) k))
+    ((k : ℕ) × (run_answer s start line 4294967295 ≡ Ok (Ended (Failure Circles) k)))
     ↔ Forever (lamp_theory (tables_of s)) (plan_of (tables_of s)) (tables_of s).first (situation start line))
 
 -- Along n lamps at most (n + 1)·S·W steps are counted.
 abbrev pub RunIsBounded : Type 0
 RunIsBounded =
-    OfEveryRun (λ s start line. (limit : ℕ) (x : Ending) (k : ℕ) → run_answer s start line limit ≡ answer.Ended x k →
+    OfEveryRun (λ s start line. (limit : ℕ) (x : Ending) (k : ℕ) → run_answer s start line limit ≡ Ok (Ended x k) →
     k ≤ (length line.lamps + 1) * ((tables_of s).states * (tables_of s).worlds))
 
 -- ---- the execution, and the one-lamp walk

@@ -7,7 +7,6 @@
 ghost use Rattle.std.specs.Prelude.{◌≡◌, ◌≤◌, length};
 ghost use Rattle.job_layout.specs.FileRefusals.{outside, ranges_wrong, number_wrong, end_of, misplaced, place_wrong, differs, length_wrong};
 
-use job_layout::places::{cell_count, goal_count, plan_length, sizes_of, width};
 use job_layout::{Job, Part, Sizes};
 
 fn is_outside(low: u8, high: u8, n: u8) -> bool
@@ -25,7 +24,7 @@ pub fn ranges_wrong(sizes: Sizes) -> bool
         | is_outside(1, 15, sizes.kinds)
         | is_outside(1, 8, sizes.results)
         | (sizes.end_kinds < 1)
-        | (16 < width(sizes))
+        | (16 < sizes.width())
 }
 
 // Refusal 2 applies.
@@ -33,7 +32,7 @@ pub fn number_wrong(file: &[u8], job: Job) -> bool
     requires { 28 ≤ length file.now }
     ensures { result ≡ number_wrong file.now job }
 {
-    ranges_wrong(sizes_of(job))
+    ranges_wrong(job.sizes())
         | is_outside(0, 64, job.states)
         | is_outside(0, job.states, job.first.0)
         | is_outside(0, 0, file[7])
@@ -75,8 +74,8 @@ pub fn length_wrong(job: Job) -> bool
     ensures { result ≡ length_wrong job }
 {
     has_other_length(job.marks, job.actions as usize)
-        | has_other_length(job.cells, 2 * cell_count(job) as usize)
+        | has_other_length(job.cells, 2 * job.cell_count() as usize)
         | has_other_length(job.starts, job.worlds as usize)
-        | has_other_length(job.goal, goal_count(job))
-        | has_other_length(job.plan, plan_length(job))
+        | has_other_length(job.goal, job.goal_count())
+        | has_other_length(job.plan, job.plan_length())
 }

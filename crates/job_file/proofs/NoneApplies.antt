@@ -1,7 +1,7 @@
 -- A job that the reader answers is the file's head, and none of the eleven refusals applies to the file.
 use mathlib.Core.Path.{◌≡◌, refl, sym, subst}
 use mathlib.Core.Bool.{false}
-use mathlib.Core.Option.{Option, none, some}
+use Rattle.std.specs.Prelude.{Option, None, Some, Ok}
 use mathlib.Core.List.{List}
 use Prim.Native.Nat.{ℕ}
 use native.Mathlib.Omega.{arith}
@@ -10,7 +10,7 @@ use Rattle.lamp_line.proofs.Answering.{first_not_applied}
 use Rattle.job_layout.specs.declared.Job.{Job}
 use Rattle.job_layout.specs.Layout.{head}
 use Rattle.job_layout.specs.FileRefusals.{size_wrong, number_wrong, place_wrong, length_wrong, mark_wrong, cell_wrong, end_wrong, start_wrong, goal_wrong, action_wrong, target_wrong}
-use Rattle.job_file.specs.declared.Reading.TheVariants as reading
+use Rattle.lamp_line.specs.declared.Refusal.{Refusal}
 use Rattle.job_file.specs.Reading.{refusals, file_refusals, reading_of, Opened}
 
 -- The job j is the head of the file s, and none of refusals 1 to 11 applies to the file.
@@ -28,11 +28,11 @@ pub record NoneApplies (s : List ℕ) (j : Job) : Type 0 where
   pub actions : action_wrong s j ≡ false
   pub targets : target_wrong s j ≡ false
 
-answered : (o : Option ℕ) (h j : Job) → or_refused reading.Refused o (reading.Job h) ≡ reading.Job j → (o ≡ none) × (j ≡ h)
-answered none h j e = (refl, cc)
-answered (some number) h j e = absurd (let z : ◌≡◌ {A = ℕ} 0 1 = cc in omega arith)
+answered : (o : Option Refusal) (h j : Job) → or_refused o (Ok h) ≡ Ok j → (o ≡ None) × (j ≡ h)
+answered None h j e = (refl, cc)
+answered (Some because) h j e = absurd (let z : ◌≡◌ {A = ℕ} 0 1 = cc in omega arith)
 
-none_of : (s : List ℕ) (j : Job) → j ≡ head s → refusal (refusals s j) ≡ none → NoneApplies s j
+none_of : (s : List ℕ) (j : Job) → j ≡ head s → refusal (refusals s j) ≡ None → NoneApplies s j
 none_of s j is_head e =
     let r₁ = first_not_applied _ _ _ e in
     let r₂ = first_not_applied _ _ _ r₁.1 in
@@ -65,4 +65,4 @@ pub none_applies : (s : List ℕ) (j : Job) → Opened s j → NoneApplies s j
 unfolding reading_of answer_by
 none_applies s j opened =
     let a = answered (refusal (file_refusals s)) (head s) j opened in
-    none_of s j a.1 (subst (λ (h : Job). refusal (refusals s h) ≡ none) (sym a.1) a.0)
+    none_of s j a.1 (subst (λ (h : Job). refusal (refusals s h) ≡ None) (sym a.1) a.0)

@@ -1,7 +1,7 @@
 -- A file that is not refused is laid out as it must be, and its tables are well formed: the law `sound`, for all crates above.
 use mathlib.Core.Path.{◌≡◌, refl, sym, ap, ◌∙◌, subst}
 use mathlib.Core.Bool.{Bool, true, false, cond, ◌&&◌, ◌||◌, not, and-eq-true_iff}
-use mathlib.Core.Option.{some}
+use Rattle.std.specs.Prelude.{Some}
 use mathlib.Core.List.{List, [], ◌∷◌}
 use Prim.Native.Nat.{ℕ, ◌+◌, ◌*◌, ◌≤◌, ◌<◌}
 use native.Mathlib.Omega.{arith}
@@ -173,13 +173,13 @@ module _ (s : List ℕ) (j : Job) where
     action_range q q< =
         rw (lt-ltb _ _ q<) (leb-false _ _ (none_at (action_wrong_at s j) j.states none_applies.actions q.0 q<))
 
-    target_range : (q q' : ProgramState) (r : Result) → (tables_by s j).target q r ≡ some q' →
+    target_range : (q q' : ProgramState) (r : Result) → (tables_by s j).target q r ≡ Some q' →
         (r < j.results) × (q'.0 ≤ j.states)
     target_range q q' r =
-        choice (λ o. o ≡ some q' → (r < j.results) × (q'.0 ≤ j.states)) (ltb q.0 j.states && ltb r j.results)
+        choice (λ o. o ≡ Some q' → (r < j.results) × (q'.0 ≤ j.states)) (ltb q.0 j.states && ltb r j.results)
         (λ inside. let tests = (and-eq-true_iff _ _).0 inside in
         let r< = ltb-true _ _ tests.1 in
-        choice (λ o. o ≡ some q' → (r < j.results) × (q'.0 ≤ j.states)) (eqb (byte s (target_place j q r)) 255)
+        choice (λ o. o ≡ Some q' → (r < j.results) × (q'.0 ≤ j.states)) (eqb (byte s (target_place j q r)) 255)
         (λ e t. absurd (let z : ◌≡◌ {A = ℕ} 0 1 = cc in omega arith))
         (λ e t. let is : byte s (target_place j q r) ≡ q'.0 = cc in
         (r<, rw (sym is) (target_right q r (ltb-true _ _ tests.0) r< e))))

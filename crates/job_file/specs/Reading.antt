@@ -1,36 +1,35 @@
 -- What the reader answers (01, "Job file" and "Who can cause which number").
-use Rattle.std.specs.Prelude.{◌≡◌, List, [], ◌∷◌, ℕ}
-use Rattle.lamp_line.specs.Refusals.{Refusal, ◌when◌, answer_by}
+use Rattle.std.specs.Prelude.{◌≡◌, List, [], ◌∷◌, ℕ, Ok}
+use Rattle.lamp_line.specs.declared.Refusal.TheVariants as refused
+use Rattle.lamp_line.specs.Refusals.{Rule, ◌when◌, Answer, answer_by}
 use Rattle.job_layout.specs.declared.Job.{Job}
 use Rattle.job_layout.specs.Layout.{head}
 use Rattle.job_layout.specs.FileRefusals.{size_wrong, number_wrong, place_wrong, length_wrong, mark_wrong, cell_wrong, end_wrong, start_wrong, goal_wrong, action_wrong, target_wrong}
-use Rattle.job_file.specs.declared.Reading.{Reading}
-use Rattle.job_file.specs.declared.Reading.TheVariants as reading
 
 -- Refusals 1 to 11, for a file s with the head j.
-abbrev pub refusals : List ℕ → Job → List Refusal
+abbrev pub refusals : List ℕ → Job → List Rule
 refusals s j =
-    (1 when size_wrong s) ∷
-    (2 when number_wrong s j) ∷
-    (3 when place_wrong s j) ∷
-    (4 when length_wrong j) ∷
-    (5 when mark_wrong s j) ∷
-    (6 when cell_wrong s j) ∷
-    (7 when end_wrong s j) ∷
-    (8 when start_wrong s j) ∷
-    (9 when goal_wrong s j) ∷
-    (10 when action_wrong s j) ∷
-    (11 when target_wrong s j) ∷
+    (refused.FileSize when size_wrong s) ∷
+    (refused.HeadNumber when number_wrong s j) ∷
+    (refused.PartPlace when place_wrong s j) ∷
+    (refused.PartLength when length_wrong j) ∷
+    (refused.Mark when mark_wrong s j) ∷
+    (refused.Cell when cell_wrong s j) ∷
+    (refused.LegalAtEnd when end_wrong s j) ∷
+    (refused.StartMark when start_wrong s j) ∷
+    (refused.GoalCell when goal_wrong s j) ∷
+    (refused.PlanAction when action_wrong s j) ∷
+    (refused.PlanTarget when target_wrong s j) ∷
     []
 
 -- The refusals of a file. Every operation that takes one tests them before its own.
-abbrev pub file_refusals : List ℕ → List Refusal
+abbrev pub file_refusals : List ℕ → List Rule
 file_refusals s = refusals s (head s)
 
 -- The reader's answer: the job in the file's head, or the lowest refusal that applies.
-unfoldable pub reading_of : List ℕ → Reading
-reading_of s = answer_by reading.Refused (file_refusals s) (reading.Job (head s))
+unfoldable pub reading_of : List ℕ → Answer Job
+reading_of s = answer_by (file_refusals s) (head s)
 
 -- The file is not refused, and the reader answers this job.
 abbrev pub Opened : List ℕ → Job → Type 0
-Opened s j = reading_of s ≡ reading.Job j
+Opened s j = reading_of s ≡ Ok j

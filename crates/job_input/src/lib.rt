@@ -54,7 +54,9 @@ fn answer_input(rt: &(impl Input + Print + Eprint)) {
 // Says on standard error how the program is used. Where that cannot be written, nobody is there to be told.
 fn explain_use(rt: &impl Eprint) {
     let _ = rt.eprint(
-        "usage: nessflurry < JOB\nIt takes no arguments: for the job file on standard input it prints one line, and its exit status is always 0.\nFor files by name, and a status that tells: lampline check FILE..\n",
+        "usage: nessflurry < JOB\n\
+         It takes no arguments: for the job file on standard input it prints one line, and its exit status is always 0.\n\
+         For files by name, and a status that tells: lampline check FILE..\n",
     );
 }
 

@@ -11,19 +11,9 @@ use mir.Val.{Fits}
 use Rattle.plans.specs.Plan.{Action, Result}
 use Rattle.lamp_line.specs.declared.ProgramState.{ProgramState}
 use Rattle.lamp_line.specs.declared.WorldState.{WorldState}
-use Rattle.lamp_line.specs.Tables.{columns}
 use Rattle.job_layout.specs.Layout.{job_columns, mark_place, next_place, start_place, goal_place, action_place}
-use Rattle.lamp_line.proofs.Products.{product_le}
 use Rattle.job_layout.specs.declared.Job.{Job}
 use Rattle.job_layout.specs.inner.Laid.{Laid}
-
--- The place of a cell among the cells is small, whatever the bytes of the head are.
-pub cell_fits :
-    (action worlds world columns : ℕ) → action ≤ 255 → worlds ≤ 255 → world ≤ 255 → columns ≤ 65535 →
-    (action * worlds + world) * columns ≤ 65280 * 65535
-cell_fits action worlds world columns a w x c =
-    let rows = product_le 255 255 action worlds a w in
-    product_le 65280 65535 (action * worlds + world) columns (omega arith) c
 
 -- What is below the length of a slice fits 64 bits.
 pub below_fits : (n m : ℕ) → n < m → m < 2 ^ 64 → Fits w64 n

@@ -1,7 +1,7 @@
 -- The tables of a job file (01, "Job file", parts 1 to 5): the only definition that turns bytes into tables.
 -- Outside its range a table has no outcome, no branch, no start and no goal, and its mark and action are 0.
 use Rattle.std.specs.Prelude.{cond, ◌&&◌, List, [], ◌∷◌, ℕ, eqb, ltb}
-use Rattle.std.proofs.Math.Option.{Option, none, some}
+use Rattle.std.specs.Prelude.{Option, None, Some}
 use Rattle.lamp_line.specs.declared.ProgramState.{ProgramState}
 use Rattle.lamp_line.specs.Tables.{Outcome, outcome, Tables, program_state, world_state}
 use Rattle.job_layout.specs.declared.Job.{Job}
@@ -13,7 +13,7 @@ outcomes next result = cond (eqb result 255) [] (outcome (world_state next) resu
 
 -- Part 5: target 255 stands for no branch, and any other for the program state of that number.
 abbrev pub branch : ℕ → Option ProgramState
-branch target = cond (eqb target 255) none (some (program_state target))
+branch target = cond (eqb target 255) None (Some (program_state target))
 
 -- The tables that the file s has if j is its head.
 abbrev pub tables_by : List ℕ → Job → Tables
@@ -34,7 +34,7 @@ tables_by s j =
       start = λ w. ltb w.0 j.worlds && eqb (byte s (start_place j w)) 1;
       goal = λ w c. ltb w.0 j.worlds && ltb c (job_columns j) && eqb (byte s (goal_place j w c)) 1;
       action = λ q. cond (ltb q.0 j.states) (byte s (action_place j q)) 0;
-      target = λ q r. cond (ltb q.0 j.states && ltb r j.results) (branch (byte s (target_place j q r))) none;
+      target = λ q r. cond (ltb q.0 j.states && ltb r j.results) (branch (byte s (target_place j q r))) None;
     }
 
 -- The tables of a file.

@@ -1,10 +1,12 @@
 // The layout of a job file (01, "Job file"): its head, and the places of its entries.
 #![tactic(auto)]
 
+ghost use Rattle.job_layout.specs.inner.Laid.{Laid};
+
 use lamp_line::ProgramState;
 
 pub mod head;
-pub mod places;
+mod places;
 
 // How many actions, world states, kinds of lamps, results and kinds of ends there are: A, W, C, R and E. Byte 6 of a file is E less one, so that E
 // may need nine bits.
@@ -41,4 +43,12 @@ pub struct Job {
     pub starts: Part,
     pub goal: Part,
     pub plan: Part,
+}
+
+// A file and its head, once refusals 1 to 4 are ruled out: the numbers of the head are in range, and each part lies in the file.
+#[derive(Clone, Copy)]
+pub struct LaidJob<'a> {
+    pub file: &'a [u8],
+    pub head: Job,
+    ghost laid: { Laid file.now head },
 }

@@ -1,32 +1,21 @@
 -- The byte at the place that the code computes for an entry is the entry of the tables.
 use mathlib.Core.Path.{◌≡◌, sym, ◌∙◌, subst}
 use mathlib.Core.Bool.{false, not}
-use mathlib.Core.Option.{none, some}
-use mathlib.Core.List.{List, [], ◌∷◌}
+use Rattle.std.specs.Prelude.{None, Some}
+use mathlib.Core.List.{List}
 use Prim.Native.Nat.{ℕ, ◌+◌, ◌<◌, ◌≤◌}
 use borrow.Author.Tests.{lt-ltb, le-ltb, eq-eqb, ne_eqb}
 use lib.Dec.{eqb}
 use Rattle.plans.specs.Plan.{Action, Result}
 use Rattle.lamp_line.specs.declared.ProgramState.{ProgramState}
 use Rattle.lamp_line.specs.declared.WorldState.{WorldState}
-use Rattle.lamp_line.specs.Tables.{Outcome, outcome, Tables, program_state, world_state, moves_on}
+use Rattle.lamp_line.specs.Tables.{Tables, program_state, world_state, moves_on}
 use Rattle.job_layout.specs.declared.Job.{Job}
 use Rattle.job_layout.specs.Layout.{job_columns, byte, mark_place, next_place, result_place, start_place, goal_place, action_place, target_place}
 use Rattle.job_layout.specs.JobTables.{outcomes, branch, tables_of}
 use Rattle.job_file.specs.Reading.{Opened}
 use Rattle.job_file.proofs.WellFormed.{tables_are, sound}
-use Rattle.job_tables.specs.declared.CellBytes.{CellBytes}
 use Rattle.job_tables.specs.inner.Entries.{BytesOf}
-
--- A cell with result 255 has no outcome.
-pub cell_not_legal : {cell : List Outcome} {worlds : ℕ} {bytes : CellBytes} → BytesOf cell worlds bytes → bytes.result ≡ 255 → [] ≡ cell
-cell_not_legal read is = sym (rw (eq-eqb _ _ is)) ∙ read.are
-
--- Any other has the outcome of its two bytes.
-pub cell_legal :
-    {cell : List Outcome} {worlds : ℕ} {bytes : CellBytes} → BytesOf cell worlds bytes → ¬ (bytes.result ≡ 255) →
-    outcome bytes.next bytes.result ∷ [] ≡ cell
-cell_legal read other = sym (rw (ne_eqb _ _ other)) ∙ read.are
 
 module _ (s : List ℕ) {j : Job} (opened : Opened s j) {at : ℕ} where
   -- An action's mark.
@@ -74,11 +63,11 @@ module _ (s : List ℕ) {j : Job} (opened : Opened s j) {at : ℕ} where
           (subst (λ (t : Tables). branch (byte s (target_place j q r)) ≡ t.target q r) (tables_are s j opened) (rw (lt-ltb _ _ q<, lt-ltb _ _ r<)))
 
       -- Target 255 is no branch.
-      pub no_target : byte s (at + 1 + r) ≡ 255 → none ≡ (tables_of s).target q r
+      pub no_target : byte s (at + 1 + r) ≡ 255 → None ≡ (tables_of s).target q r
       no_target is = sym (rw (eq-eqb _ _ is)) ∙ target_is
 
       -- Any other is a branch to the program state of that number.
-      pub some_target : ¬ (byte s (at + 1 + r) ≡ 255) → some (program_state (byte s (at + 1 + r))) ≡ (tables_of s).target q r
+      pub some_target : ¬ (byte s (at + 1 + r) ≡ 255) → Some (program_state (byte s (at + 1 + r))) ≡ (tables_of s).target q r
       some_target other = sym (rw (ne_eqb _ _ other)) ∙ target_is
 
 -- A world state that is not below W is no start.

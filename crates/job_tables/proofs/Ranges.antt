@@ -3,7 +3,7 @@ use mathlib.Core.Path.{◌≡◌, refl, sym, ap, subst}
 use mathlib.Core.Logic.{inl}
 use mathlib.Core.List.{List, [], ◌∷◌}
 use Prim.Native.Nat.{ℕ, ◌≤◌, ◌<◌}
-use Rattle.plans.specs.Plan.{Action, Result}
+use Rattle.plans.specs.Plan.{Action}
 use Rattle.lamp_line.specs.declared.ProgramState.{ProgramState}
 use Rattle.lamp_line.specs.declared.WorldState.{WorldState}
 use Rattle.lamp_line.specs.Lists.{◌∈◌}
@@ -15,8 +15,8 @@ use Rattle.job_layout.specs.JobTables.{tables_of}
 use Rattle.job_layout.specs.inner.Laid.{Laid}
 use Rattle.job_file.specs.Reading.{Opened}
 use Rattle.job_file.proofs.WellFormed.{sound}
-use Rattle.job_tables.specs.declared.Cell.{Cell}
-use Rattle.job_tables.specs.declared.Cell.TheVariants.{Legal}
+use Rattle.std.specs.Prelude.{Option, Some}
+use Rattle.job_tables.specs.declared.CellBytes.{CellBytes}
 use Rattle.job_tables.specs.inner.Entries.{outcomes_of}
 
 -- The file is laid out as it must be.
@@ -67,7 +67,8 @@ module _ (s : List ℕ) (j : Job) (opened : Opened s j) where
 
   -- The result of a legal cell is below R.
   pub result_below :
-      (a : Action) (w : WorldState) (c : ℕ) {cell : Cell} {w' : WorldState} {r : Result} →
-      outcomes_of cell ≡ (tables_of s).cell a w c → cell ≡ Legal w' r → r < j.results
-  result_below a w c {w' = w'} {r = r} read legal =
-      rw results_are (well_formed.formed.result_range a w w' c r (rw (← read, legal) (first_in (outcome w' r))))
+      (a : Action) (w : WorldState) (c : ℕ) {cell : Option CellBytes} {bytes : CellBytes} →
+      outcomes_of cell ≡ (tables_of s).cell a w c → cell ≡ Some bytes → bytes.result < j.results
+  result_below a w c {bytes = bytes} read legal =
+      rw results_are (well_formed.formed.result_range a w bytes.next c bytes.result
+      (rw (← read, legal) (first_in (outcome bytes.next bytes.result))))

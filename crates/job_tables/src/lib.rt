@@ -1,41 +1,24 @@
-// Reads the tables of a job file that is not refused: marks, cells, starts, goal, and the actions and targets of the plan.
+// Opens a job file, and reads the tables of one that is not refused: marks, cells, starts, goal, and the actions and targets of the plan.
 //
-// These functions are for the crates above and not for users: each asks for the job that the reader answered for this file, and
-// for numbers within the table.
+// The functions that read a table are for the crates above and not for users: each asks for numbers within the table.
 #![tactic(auto)]
 
-ghost use Rattle.std.specs.Prelude.{◌≡◌, ◌<◌};
+ghost use Rattle.std.specs.Prelude.{◌≡◌, ◌<◌, Err, IfOk, IfErr};
 ghost use Rattle.lamp_line.specs.Tables.{moves_on};
 ghost use Rattle.job_layout.specs.Layout.{job_columns};
 ghost use Rattle.job_layout.specs.JobTables.{tables_of};
-ghost use Rattle.job_file.specs.Reading.{Opened};
-ghost use Rattle.job_tables.specs.inner.Entries.{BytesOf, outcomes_of, target_of};
+ghost use Rattle.job_file.specs.Reading.{reading_of, Opened};
 
+use job_file::read_job;
 use job_layout::Job;
-use job_layout::places::{action_place, goal_place, mark_place, next_place, start_place};
-use lamp_line::{ProgramState, WorldState};
+use lamp_line::{ProgramState, Refusal, WorldState};
 
-// A cell: the action is not legal there, or it leads to a world state and senses a result.
+// A job file that is not refused: its bytes, and the head that the reader answers for them.
 #[derive(Clone, Copy)]
-pub enum Cell {
-    NotLegal,
-    Legal(WorldState, u8),
-}
-
-// A branch of the plan: none, or the target.
-#[derive(Clone, Copy)]
-pub enum Target {
-    NoBranch,
-    To(ProgramState),
-}
-
-// The action is marked as moving on.
-pub fn moves_on(file: &[u8], job: Job, action: u8) -> bool
-    requires { Opened file.now job × (action < job.actions) }
-    ensures { result ≡ moves_on (tables_of file.now) action }
-{
-    let at = mark_place(job, action);
-    file[at] != 0
+pub struct OpenJob<'a> {
+    pub file: &'a [u8],
+    pub head: Job,
+    ghost opened: { Opened file.now head },
 }
 
 // The two bytes of a cell, whether it is legal or not: its next world state, and its result or 255.
@@ -45,77 +28,86 @@ pub struct CellBytes {
     pub result: u8,
 }
 
-// The bytes of the cell of an action in a world state, at a column.
-pub fn read_cell_bytes(
-    file: &[u8],
-    job: Job,
-    action: u8,
-    world: WorldState,
-    column: u8,
-) -> CellBytes
-    requires { Opened file.now job × (action < job.actions) × (world.0 < job.worlds) × (column < job_columns job) }
-    ensures { BytesOf ((tables_of file.now).cell action world column) job.worlds result }
+// Opens a file, unless the reader refuses it.
+pub fn open_job(file: &[u8]) -> Result<OpenJob<'_>, Refusal>
+    ensures opened { IfOk result (λ job. job.file.now ≡ file.now) }
+    ensures refused { IfErr result (λ because. reading_of file.now ≡ Err because) }
 {
-    let at = next_place(job, action, world, column);
-    CellBytes {
-        next: WorldState(file[at]),
-        result: file[at + 1],
+    let head = read_job(file)?;
+    Ok(OpenJob { file, head })
+}
+
+impl OpenJob<'_> {
+    ghost use Rattle.job_tables.specs.inner.Entries.{BytesOf, outcomes_of};
+
+    // The action is marked as moving on.
+    pub fn moves_on(&self, action: u8) -> bool
+        requires { action < self.now.head.actions }
+        ensures { result ≡ moves_on (tables_of self.now.file.now) action }
+    {
+        self.file[self.head.mark_place(action)] != 0
     }
-}
 
-// The cell of an action in a world state, at a column.
-pub fn read_cell(file: &[u8], job: Job, action: u8, world: WorldState, column: u8) -> Cell
-    requires { Opened file.now job × (action < job.actions) × (world.0 < job.worlds) × (column < job_columns job) }
-    ensures { outcomes_of result ≡ (tables_of file.now).cell action world column }
-{
-    let bytes = read_cell_bytes(file, job, action, world, column);
-    let next = bytes.next;
-    let result = bytes.result;
-    if result == 255 {
-        return Cell::NotLegal;
+    // The bytes of the cell of an action in a world state, at a column.
+    pub fn cell_bytes(&self, action: u8, world: WorldState, column: u8) -> CellBytes
+        requires { (action < self.now.head.actions) × (world.0 < self.now.head.worlds) × (column < job_columns self.now.head) }
+        ensures { BytesOf ((tables_of self.now.file.now).cell action world column) self.now.head.worlds result }
+    {
+        let at = self.head.next_place(action, world, column);
+        CellBytes {
+            next: WorldState(self.file[at]),
+            result: self.file[at + 1],
+        }
     }
-    Cell::Legal(next, result)
-}
 
-// The world state is below W and marked as a start.
-pub fn is_start(file: &[u8], job: Job, world: WorldState) -> bool
-    requires { Opened file.now job }
-    ensures { result ≡ (tables_of file.now).start world }
-{
-    if job.worlds <= world.0 {
-        return false;
+    // The cell of an action in a world state, at a column: none if the action is not legal there.
+    pub fn cell(&self, action: u8, world: WorldState, column: u8) -> Option<CellBytes>
+        requires { (action < self.now.head.actions) × (world.0 < self.now.head.worlds) × (column < job_columns self.now.head) }
+        ensures { outcomes_of result ≡ (tables_of self.now.file.now).cell action world column }
+    {
+        let bytes = self.cell_bytes(action, world, column);
+        if bytes.result == 255 {
+            return None;
+        }
+        Some(bytes)
     }
-    let at = start_place(job, world);
-    file[at] == 1
-}
 
-// The goal is true in a world state, at a column.
-pub fn is_goal(file: &[u8], job: Job, world: WorldState, column: u8) -> bool
-    requires { Opened file.now job × (world.0 < job.worlds) × (column < job_columns job) }
-    ensures { result ≡ (tables_of file.now).goal world column }
-{
-    let at = goal_place(job, world, column);
-    file[at] == 1
-}
-
-// The action of a program state that is not final.
-pub fn plan_action(file: &[u8], job: Job, state: ProgramState) -> u8
-    requires { Opened file.now job × (state.0 < job.states) }
-    ensures { result ≡ (tables_of file.now).action state }
-{
-    let at = action_place(job, state);
-    file[at]
-}
-
-// The branch of a program state that is not final, for a result.
-pub fn plan_target(file: &[u8], job: Job, state: ProgramState, sensed: u8) -> Target
-    requires { Opened file.now job × (state.0 < job.states) × (sensed < job.results) }
-    ensures { target_of result ≡ (tables_of file.now).target state sensed }
-{
-    let at = action_place(job, state) + 1 + sensed as usize;
-    let target = file[at];
-    if target == 255 {
-        return Target::NoBranch;
+    // The world state is below W and marked as a start.
+    pub fn is_start(&self, world: WorldState) -> bool
+        ensures { result ≡ (tables_of self.now.file.now).start world }
+    {
+        if self.head.worlds <= world.0 {
+            return false;
+        }
+        self.file[self.head.start_place(world)] == 1
     }
-    Target::To(ProgramState(target))
+
+    // The goal is true in a world state, at a column.
+    pub fn is_goal(&self, world: WorldState, column: u8) -> bool
+        requires { (world.0 < self.now.head.worlds) × (column < job_columns self.now.head) }
+        ensures { result ≡ (tables_of self.now.file.now).goal world column }
+    {
+        self.file[self.head.goal_place(world, column)] == 1
+    }
+
+    // The action of a program state that is not final.
+    pub fn action(&self, state: ProgramState) -> u8
+        requires { state.0 < self.now.head.states }
+        ensures { result ≡ (tables_of self.now.file.now).action state }
+    {
+        self.file[self.head.action_place(state)]
+    }
+
+    // The target of a program state that is not final, for a result: none if the plan has no branch for it.
+    pub fn target(&self, state: ProgramState, sensed: u8) -> Option<ProgramState>
+        requires { (state.0 < self.now.head.states) × (sensed < self.now.head.results) }
+        ensures { result ≡ (tables_of self.now.file.now).target state sensed }
+    {
+        let at = self.head.action_place(state) + 1 + sensed as usize;
+        let target = self.file[at];
+        if target == 255 {
+            return None;
+        }
+        Some(ProgramState(target))
+    }
 }

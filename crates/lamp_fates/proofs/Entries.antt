@@ -1,9 +1,8 @@
 -- Entries as numbers: the entry of a fate is no link, and the fate can be read off it.
 use mathlib.Core.Path.{◌≡◌, refl, ap₂, ◌∙◌}
-use mathlib.Core.Logic.{◌≢◌}
 use Prim.Native.Nat.{ℕ, ◌+◌, ◌-◌, ◌/◌, ◌%◌, ◌≤◌, ◌<◌}
 use native.Mathlib.Omega.{arith}
-use borrow.Author.Tests.{ne_eqb, lt-ltb, le-ltb}
+use borrow.Author.Tests.{ne_eqb, le-ltb}
 use lib.Arith.{digits_div, digits_mod}
 use Rattle.lamp_line.specs.declared.FailureKind.{FailureKind}
 use Rattle.lamp_line.specs.declared.FailureKind.TheVariants.{NotLegal, NoBranch, Circles, GoalFalse}
@@ -11,7 +10,8 @@ use Rattle.lamp_line.specs.declared.Ending.TheVariants.{Goal, Failure}
 use Rattle.lamp_line.specs.Tables.{Tables, program_state, world_state}
 use Rattle.lamp_line.specs.inner.WellFormed.{WellFormed}
 use Rattle.lamp_line.specs.Endings.{kind_number}
-use Rattle.lamp_line.specs.Run.{Pair, pair, Walk, ended, arrived, lamp_walk}
+use Rattle.lamp_line.specs.declared.Pair.{Pair}
+use Rattle.lamp_line.specs.Run.{pair, Walk, ended, arrived, lamp_walk}
 use Rattle.run_laws.specs.inner.Pairs.{InRange}
 use Rattle.run_laws.proofs.Walks.{arrived_in_range}
 use Rattle.fate_laws.specs.inner.Fates.{uncounted}
@@ -40,10 +40,6 @@ from_arrivals v v≥ =
       ne_eqb v 4 (λ e. omega arith),
       le-ltb v 16 v≥,
     )
-
--- An entry from 5 to 15 stands for failure 4.
-pub from_goal_false : (v : ℕ) → 2 ≤ v → v ≢ 2 → v ≢ 3 → v ≢ 4 → v < 16 → ended (Failure GoalFalse) 0 ≡ fate_from v
-from_goal_false v v≥ e₂ e₃ e₄ v< = rw (le-ltb v 2 v≥, ne_eqb v 2 e₂, ne_eqb v 3 e₃, ne_eqb v 4 e₄, lt-ltb v 16 v<)
 
 -- The fate is read off the entry of an arrival.
 from_arrival : (p : Pair) (k : ℕ) → p.world.0 < 64 → fate_from (fate_entry (arrived p k)) ≡ arrived p 0

@@ -8,7 +8,8 @@ use native.Mathlib.Decide.{dec_lt, ℕ_discrete}
 use native.Mathlib.Omega.{arith}
 use lib.ListN.{set, length-set}
 use Rattle.lamp_line.specs.Tables.{Tables}
-use Rattle.lamp_line.specs.Run.{Pair, Walk, lamp_walk}
+use Rattle.lamp_line.specs.declared.Pair.{Pair}
+use Rattle.lamp_line.specs.Run.{Walk, lamp_walk}
 use Rattle.run_laws.specs.inner.Pairs.{InRange, pair_number}
 use Rattle.fate_laws.specs.inner.Fates.{uncounted}
 use Rattle.fate_laws.proofs.Series.{stays_within}

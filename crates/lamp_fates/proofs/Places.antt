@@ -8,7 +8,7 @@ use lib.Arith.{digits_lt, digits_div, digits_mod}
 use lib.ListN.{length, set}
 use lib.Seq.{get_or-set_same, get_or-set_other}
 use Rattle.lamp_line.specs.Tables.{Tables, column_count}
-use Rattle.lamp_line.specs.Run.{Pair}
+use Rattle.lamp_line.specs.declared.Pair.{Pair}
 use Rattle.run_laws.specs.inner.Pairs.{InRange, pair_number, pairs}
 use Rattle.run_laws.proofs.Pairs.{pair_number_in, pair_number_injective}
 use Rattle.lamp_fates.specs.inner.Memory.{memory_size, entry_place, remembered}

@@ -10,14 +10,13 @@ use lib.Dec.{eqb}
 use mir.Syntax.{w64}
 use mir.Val.{Fits}
 use lib.ListN.{length, get_or, set, length-set}
-use Rattle.lamp_line.specs.declared.ProgramState.{ProgramState}
-use Rattle.lamp_line.specs.declared.WorldState.{WorldState}
 use Rattle.lamp_line.specs.declared.FailureKind.TheVariants.{Circles}
 use Rattle.lamp_line.specs.declared.Ending.{Ending}
 use Rattle.lamp_line.specs.declared.Ending.TheVariants.{Failure}
 use Rattle.lamp_line.specs.Tables.{Tables}
 use Rattle.job_layout.specs.Layout.{job_columns}
-use Rattle.lamp_line.specs.Run.{Pair, pair, ends, ended, judged, act, lamp_walk}
+use Rattle.lamp_line.specs.declared.Pair.{Pair}
+use Rattle.lamp_line.specs.Run.{ends, ended, judged, act, lamp_walk}
 use Rattle.run_laws.specs.inner.Pairs.{InRange, pair_number}
 use Rattle.run_laws.proofs.Actions.{act_final}
 use Rattle.job_layout.specs.declared.Job.{Job}
@@ -101,38 +100,38 @@ module _ {s : List ℕ} {j : Job} {first : Pair} {column : ℕ} where
       walked_ends {x = x} is e =
           walked (e ∙ told asked (ends_fate t asked.well_formed column asked.column_in (walk.actions + 1) first x asked.in_range (leads_on is)))
 
-      module _ {q : ProgramState} {w : WorldState} where
+      module _ {q : Pair} where
         -- It passes the lamp.
-        pub walked_passes : {n : ℕ} → step ≡ move.Passes q w → n ≡ pair_code (pair q w) → WalkedTo t first column (16 + n) memory
+        pub walked_passes : {n : ℕ} → step ≡ move.Passes q → n ≡ pair_code q → WalkedTo t first column (16 + n) memory
         walked_passes is e =
             walked (ap (◌+◌ 16) e
             ∙ told asked
-            (passes_fate t asked.well_formed column asked.column_in (walk.actions + 1) first (pair q w) asked.in_range (leads_on is)))
+            (passes_fate t asked.well_formed column asked.column_in (walk.actions + 1) first q asked.in_range (leads_on is)))
 
         -- It stays.
-        module _ (is : step ≡ move.Stays q w) where
+        module _ (is : step ≡ move.Stays q) where
           -- The pair that it leads to is one of the tables.
-          next_within : InRange t (pair q w)
+          next_within : InRange t q
           next_within = within asked (walk.actions + 1) (leads_on is)
 
           -- So its world state is one of the job's.
-          pub next_world_within : w.0 < j.worlds
+          pub next_world_within : q.world.0 < j.worlds
           next_world_within = next_within.world_range
 
           -- It has a small number, so that a link can name it.
-          pub next_small : {number : ℕ} → number ≡ pair_number j.worlds (pair q w) → number < 4160
-          next_small e = omega (arith, e, pair_number_in t (pair q w) next_within, pairs_few asked.well_formed)
+          pub next_small : {number : ℕ} → number ≡ pair_number j.worlds q → number < 4160
+          next_small e = omega (arith, e, pair_number_in t q next_within, pairs_few asked.well_formed)
 
           -- It leads to the final state: the goal decides.
           pub walked_final :
-              {r : ℕ} {x : Ending} → q.0 ≡ j.states → x ≡ judged (tables_of s) w column → r ≡ fate_entry (ended x 0) →
+              {r : ℕ} {x : Ending} → q.state.0 ≡ j.states → x ≡ judged (tables_of s) q.world column → r ≡ fate_entry (ended x 0) →
               WalkedTo t first column r memory
           walked_final {x = x} final judges e =
-              let goal : judged (tables_of s) w column ≡ judged t w column =
-              ap (λ (u : Tables). judged u w column) (sym (tables_are s j walk.opened)) in
+              let goal : judged (tables_of s) q.world column ≡ judged t q.world column =
+              ap (λ (u : Tables). judged u q.world column) (sym (tables_are s j walk.opened)) in
               let end =
-              series_more t column (walk.actions + 1) first (pair q w) (ends (judged t w column)) (leads_on is)
-              (act_final t (pair q w) column (eq-eqb _ _ final)) in
+              series_more t column (walk.actions + 1) first q (ends (judged t q.world column)) (leads_on is)
+              (act_final t q column (eq-eqb _ _ final)) in
               walked (e ∙ ap (λ (y : Ending). fate_entry (ended y 0)) (judges ∙ goal)
               ∙ told asked (ends_fate t asked.well_formed column asked.column_in (walk.actions + 1 + 1) first _ asked.in_range end))
 
@@ -190,9 +189,8 @@ module _ {s : List ℕ} {j : Job} {first : Pair} {column : ℕ} where
 
         -- The action stays, and the link names the pair that it leads to: the walk goes on there.
         pub leaving_on :
-            (step : Acted) {q : ProgramState} {w : WorldState} → move_of step ≡ act (tables_of s) p column → step ≡ move.Stays q w →
-            n ≡ pair_number j.worlds (pair q w) →
-            LeavingLinks s j first column memory₀ (set memory place (8192 + n)) (pair q w)
+            (step : Acted) {q : Pair} → move_of step ≡ act (tables_of s) p column → step ≡ move.Stays q → n ≡ pair_number j.worlds q →
+            LeavingLinks s j first column memory₀ (set memory place (8192 + n)) q
         leaving_on step acts is e =
             let next = leads_on step acts is in
             record {

@@ -9,7 +9,7 @@ use borrow.Author.Tests.{le-leb, lt-leb}
 use lib.Dec.{leb}
 use lib.ListN.{length, get_or, set, length-set}
 use Rattle.lamp_line.specs.Tables.{Tables}
-use Rattle.lamp_line.specs.Run.{Pair}
+use Rattle.lamp_line.specs.declared.Pair.{Pair}
 use Rattle.run_laws.specs.inner.Pairs.{InRange, pair_number, pairs}
 use Rattle.fate_laws.specs.inner.Series.{series}
 use Rattle.lamp_fates.specs.declared.Fate.{Fate}
@@ -20,31 +20,18 @@ use Rattle.lamp_fates.proofs.LinkLaws.{within, fate_written}
 use Rattle.lamp_fates.proofs.Places.{place_in}
 use Rattle.lamp_fates.proofs.Tally.{tally, tally_falls}
 
--- A walk has found its fate, and the loop along its links begins. The loop has neither the pair nor the job, only the number of the
--- first pair and the first place of the column.
-pub record Began (t : Tables) (first : Pair) (column entry : ℕ) (memory : List ℕ) (base number : ℕ) : Type 0 where
-  pub walked : WalkedTo t first column entry memory
+-- A walk has found its fate, and the loop along its links has reached the pair with this number: the links that are left are those from
+-- this pair on.
+pub record Following (t : Tables) (first : Pair) (column entry : ℕ) (memory₀ : List ℕ) (base : ℕ) (memory : List ℕ) (number : ℕ) : Type 0 where
+  pub same_length : length memory ≡ length memory₀
+  pub walked : WalkedTo t first column entry memory₀
   pub base_is : base ≡ column * pairs t
-  pub number_is : number ≡ pair_number t.worlds first
-
--- The loop has reached the pair with this number, and the links that are left are those from this pair on.
-pub record LinksFrom (t : Tables) (first : Pair) (column : ℕ) (memory : List ℕ) (number : ℕ) : Type 0 where
   pub p : Pair
   pub number_is : number ≡ pair_number t.worlds p
   pub from : ℕ
   pub below : ℕ
   pub after : After t first column from p
   pub links : Linked t first column from below memory
-
--- The loop has reached the pair with this number. It began with some walk, and for any walk that it may have begun with, the links
--- that are left are those from this pair on.
-pub record Following (column entry : ℕ) (memory₀ : List ℕ) (base number₀ : ℕ) (memory : List ℕ) (number : ℕ) : Type 0 where
-  pub same_length : length memory ≡ length memory₀
-  pub tables : Tables
-  pub first : Pair
-  pub began : Began tables first column entry memory₀ base number₀
-  pub follows :
-      {t : Tables} {first : Pair} → Began t first column entry memory₀ base number₀ → LinksFrom t first column memory number
 
 -- How many entries are links.
 abbrev pub linked : List ℕ → ℕ
@@ -77,126 +64,90 @@ module _ {t : Tables} {first : Pair} {column entry : ℕ} {memory₀ : List ℕ}
         memory = known;
       }
 
--- ---- one walk
-
-module _
-    {t : Tables} {first : Pair} {column entry : ℕ} {memory₀ : List ℕ} {base number₀ : ℕ}
-    (began : Began t first column entry memory₀ base number₀) where
-  abbrev walked : WalkedTo t first column entry memory₀
-  walked = began.walked
-
-  links_from_first : LinksFrom t first column memory₀ number₀
-  links_from_first =
-      record {
-        p = first;
-        number_is = began.number_is;
-        from = 0;
-        below = walked.actions;
-        after = unfold series in refl;
-        links = walked.links;
-      }
-
-  module _ {memory : List ℕ} {number : ℕ} (left : LinksFrom t first column memory number) where
-    abbrev p : Pair
-    p = left.p
-
-    -- The place is that of the pair at the column.
-    abbrev place : ℕ
-    place = base + number
-
-    at : place ≡ entry_place t p column
-    at = ap₂ ◌+◌ began.base_is left.number_is
-
-    in_range : InRange t p
-    in_range = within walked.asked left.from left.after
-
-    place_within : place < length memory
-    place_within = rw at (place_in t p column in_range walked.asked.column_in memory left.links.room)
-
-    written : Linked t first column (left.from + 1) left.below (set memory place entry)
-    written = rw at (fate_written walked.asked left.links left.after walked.is_fate)
-
-    -- The entry of the pair is no link: none is left.
-    none_left : get_or memory place 0 < 8192 → Memory t (set memory place entry)
-    none_left small = links_gone (go (dec_lt left.from left.below) (rw at at small)) written
-      where
-        go : Dec (left.from < left.below) → remembered t memory p column < 8192 → left.below ≤ left.from + 1
-        go (yes h) small =
-            absurd (omega (arith, (left.links.link left.from p (omega arith) h left.after).names))
-        go (no h) small = omega arith
-
-    module _ (is_link : 8192 ≤ get_or memory place 0) where
-      met : Link t first column left.from (get_or memory place 0)
-      met = rw at (by (left.links.others p column in_range walked.asked.column_in) (rw at at is_link))
-        where
-          by :
-              Stands t first column left.from left.below p column (remembered t memory p column) →
-              8192 ≤ remembered t memory p column → Link t first column left.from (remembered t memory p column)
-          by (inl (inl none)) is_link = absurd (omega arith)
-          by (inl (inr right)) is_link = absurd (omega (arith, fate_below t walked.asked.well_formed p column))
-          by (inr way) is_link =
-              left.links.link left.from p (omega arith) (omega (arith, way.not_earlier, way.before)) left.after
-
-      -- The loop goes on at the pair that the link names.
-      links_from_next : LinksFrom t first column (set memory place entry) (get_or memory place 0 - 8192)
-      links_from_next =
-          record {
-            p = met.to;
-            number_is = omega (arith, met.names);
-            from = left.from + 1;
-            below = left.below;
-            after = met.after;
-            links = written;
-          }
-
 -- ---- the loop
 
 -- The loop begins, with the first place of the column and the number of the first pair.
 pub following_starts :
     {t : Tables} {first : Pair} {column entry : ℕ} {memory : List ℕ} {base number : ℕ} → WalkedTo t first column entry memory →
-    base ≡ column * pairs t → number ≡ pair_number t.worlds first → Following column entry memory base number memory number
-following_starts comes base_is number_is =
+    base ≡ column * pairs t → number ≡ pair_number t.worlds first → Following t first column entry memory base memory number
+following_starts {first = first} comes base_is number_is =
     record {
       same_length = refl;
-      tables = _;
-      first = _;
-      began = record { walked = comes; base_is = base_is; number_is = number_is };
-      follows = links_from_first;
+      walked = comes;
+      base_is = base_is;
+      p = first;
+      number_is = number_is;
+      from = 0;
+      below = comes.actions;
+      after = unfold series in refl;
+      links = comes.links;
     }
 
 module _
-    {column entry : ℕ} {memory₀ : List ℕ} {base number₀ : ℕ} {memory : List ℕ} {number : ℕ}
-    (loop : Following column entry memory₀ base number₀ memory number) where
-  -- The place is within the memory.
-  pub following_place : base + number < length memory
-  following_place = place_within loop.began (loop.follows loop.began)
+    {t : Tables} {first : Pair} {column entry : ℕ} {memory₀ : List ℕ} {base : ℕ} {memory : List ℕ} {number : ℕ}
+    (loop : Following t first column entry memory₀ base memory number) where
+  abbrev walked : WalkedTo t first column entry memory₀
+  walked = loop.walked
 
-  -- The entry of the pair is no link: what is written there leaves a memory.
-  pub following_ends :
-      {t : Tables} {first : Pair} → WalkedTo t first column entry memory₀ → base ≡ column * pairs t →
-      number₀ ≡ pair_number t.worlds first → get_or memory (base + number) 0 < 8192 →
-      Memory t (set memory (base + number) entry)
-  following_ends {t} {first} comes base_is number_is small =
-      let began : Began t first column entry memory₀ base number₀ =
-      record { walked = comes; base_is = base_is; number_is = number_is } in
-      none_left began (loop.follows began) small
+  abbrev p : Pair
+  p = loop.p
+
+  -- The place is that of the pair at the column.
+  abbrev place : ℕ
+  place = base + number
+
+  at : place ≡ entry_place t p column
+  at = ap₂ ◌+◌ loop.base_is loop.number_is
+
+  in_range : InRange t p
+  in_range = within walked.asked loop.from loop.after
+
+  -- It is within the memory.
+  pub following_place : base + number < length memory
+  following_place = rw at (place_in t p column in_range walked.asked.column_in memory loop.links.room)
+
+  written : Linked t first column (loop.from + 1) loop.below (set memory place entry)
+  written = rw at (fate_written walked.asked loop.links loop.after walked.is_fate)
+
+  -- The entry of the pair is no link: none is left, and what is written there leaves a memory.
+  pub following_ends : get_or memory (base + number) 0 < 8192 → Memory t (set memory (base + number) entry)
+  following_ends small = links_gone (go (dec_lt loop.from loop.below) (rw at at small)) written
+    where
+      go : Dec (loop.from < loop.below) → remembered t memory p column < 8192 → loop.below ≤ loop.from + 1
+      go (yes h) small =
+          absurd (omega (arith, (loop.links.link loop.from p (omega arith) h loop.after).names))
+      go (no h) small = omega arith
 
   -- The entry is a link, which names a pair.
   module _ (is_link : 8192 ≤ get_or memory (base + number) 0) where
+    met : Link t first column loop.from (get_or memory place 0)
+    met = rw at (by (loop.links.others p column in_range walked.asked.column_in) (rw at at is_link))
+      where
+        by :
+            Stands t first column loop.from loop.below p column (remembered t memory p column) →
+            8192 ≤ remembered t memory p column → Link t first column loop.from (remembered t memory p column)
+        by (inl (inl none)) is_link = absurd (omega arith)
+        by (inl (inr right)) is_link = absurd (omega (arith, fate_below t walked.asked.well_formed p column))
+        by (inr way) is_link =
+            loop.links.link loop.from p (omega arith) (omega (arith, way.not_earlier, way.before)) loop.after
+
     -- One link fewer is left.
     pub linked_falls : linked (set memory (base + number) entry) < linked memory
     linked_falls =
         tally_falls (λ v. leb 8192 v) memory (base + number) entry following_place (le-leb _ _ is_link)
-        (lt-leb _ _ (entry_small loop.began.walked))
+        (lt-leb _ _ (entry_small walked))
 
     -- The loop goes on at that pair.
-    pub following_on :
-        Following column entry memory₀ base number₀ (set memory (base + number) entry) (get_or memory (base + number) 0 - 8192)
+    pub following_on : Following t first column entry memory₀ base (set memory (base + number) entry) (get_or memory (base + number) 0 - 8192)
     following_on =
         record {
           same_length = length-set memory (base + number) entry ∙ loop.same_length;
-          tables = loop.tables;
-          first = loop.first;
-          began = loop.began;
-          follows = λ began. links_from_next began (loop.follows began) is_link;
+          walked = walked;
+          base_is = loop.base_is;
+          p = met.to;
+          number_is = omega (arith, met.names);
+          from = loop.from + 1;
+          below = loop.below;
+          after = met.after;
+          links = written;
         }

@@ -5,17 +5,16 @@
 // first pair on, and each is replaced by the fate. A walk that meets a link has come back to one of its own pairs, so it circles.
 #![tactic(auto)]
 
-ghost use Rattle.std.specs.Prelude.{◌≡◌, List, ℕ, ◌+◌, ◌*◌, ◌<◌};
+ghost use Rattle.std.specs.Prelude.{◌≡◌, ◌+◌, ◌*◌, ◌<◌};
 ghost use Rattle.job_layout.specs.Layout.{job_columns};
-ghost use Rattle.lamp_line.specs.Run.{pair, ended};
-ghost use Rattle.job_layout.specs.JobTables.{tables_by};
-ghost use Rattle.job_file.specs.Reading.{Opened};
+ghost use Rattle.lamp_line.specs.Run.{ended};
+ghost use Rattle.job_tables.specs.Opened.{tables};
 ghost use Rattle.run_laws.specs.inner.Pairs.{InRange, pair_number};
 ghost use Rattle.lamp_fates.specs.inner.Memory.{walk_to, pair_code, fate_entry, fate_from, Memory, LookedUp};
 ghost use Rattle.lamp_fates.specs.inner.Links.{WalkedTo};
 
-use job_layout::Job;
-use lamp_line::{Ending, FailureKind, ProgramState, WorldState, failure_number};
+use job_tables::OpenJob;
+use lamp_line::{Ending, FailureKind, Pair, ProgramState, WorldState};
 use lamp_walk::{Acted, judge, one_action};
 
 // The fate of a pair at a column: the run ends with the goal true, it fails, or a pair arrives at the next lamp.
@@ -23,7 +22,7 @@ use lamp_walk::{Acted, judge, one_action};
 pub enum Fate {
     Succeeds,
     Fails(FailureKind),
-    Arrives(ProgramState, WorldState),
+    Arrives(Pair),
 }
 
 // An entry from this number on is a link. The entry minus this number is the number of the pair that it leads to, which is all that
@@ -31,17 +30,17 @@ pub enum Fate {
 const LINKS: u16 = 8192;
 
 // The number of a pair among all pairs.
-pub fn pair_number(state: ProgramState, world: WorldState, worlds: u8) -> usize
-    ensures { result ≡ pair_number worlds (pair state world) }
+pub fn pair_number(pair: Pair, worlds: u8) -> usize
+    ensures { result ≡ pair_number worlds pair }
 {
-    state.row(worlds as u16) + world.row(1)
+    pair.state.row(worlds as u16) + pair.world.row(1)
 }
 
 // A pair as one number, which can be taken apart without W.
-fn pair_code(state: ProgramState, world: WorldState) -> u16
-    ensures { result ≡ pair_code (pair state world) }
+fn pair_code(pair: Pair) -> u16
+    ensures { result ≡ pair_code pair }
 {
-    (state.row(64) + world.row(1)) as u16
+    (pair.state.row(64) + pair.world.row(1)) as u16
 }
 
 // The entry of the fate that is this ending.
@@ -50,7 +49,7 @@ fn ending_entry(ending: Ending) -> u16
 {
     match ending {
         Ending::Goal => 1,
-        Ending::Failure(kind) => 1 + failure_number(kind) as u16,
+        Ending::Failure(kind) => 1 + kind.number() as u16,
     }
 }
 
@@ -76,43 +75,35 @@ fn entry_fate(entry: u16) -> Fate
         return Fate::Fails(FailureKind::GoalFalse);
     }
     let code = entry - 16;
-    Fate::Arrives(
-        ProgramState((code / 64) as u8),
-        WorldState((code % 64) as u8),
-    )
+    Fate::Arrives(Pair {
+        state: ProgramState((code / 64) as u8),
+        world: WorldState((code % 64) as u8),
+    })
 }
 
 // The place of the first entry of a column.
-fn first_place(job: Job, column: u8) -> usize
-    ensures { result ≡ column * ((job.states + 1) * job.worlds) }
+fn first_place(job: &OpenJob, column: u8) -> usize
+    ensures { result ≡ column * ((job.now.head.states + 1) * job.now.head.worlds) }
 {
-    column as usize * ((job.states as usize + 1) * job.worlds as usize)
+    column as usize * ((job.head.states as usize + 1) * job.head.worlds as usize)
 }
 
 // The place of the entry of a pair at a column.
-fn entry_place(job: Job, state: ProgramState, world: WorldState, column: u8) -> usize
-    ensures { result ≡ column * ((job.states + 1) * job.worlds) + pair_number job.worlds (pair state world) }
+fn entry_place(job: &OpenJob, pair: Pair, column: u8) -> usize
+    ensures { result ≡ column * ((job.now.head.states + 1) * job.now.head.worlds) + pair_number job.now.head.worlds pair }
 {
-    first_place(job, column) + pair_number(state, world, job.worlds)
+    first_place(job, column) + pair_number(pair, job.head.worlds)
 }
 
 // Walks from the pair until its fate is known, answers the entry of the fate, and leaves links along the way.
-fn walk_to_fate(
-    file: &[u8],
-    job: Job,
-    memory: &mut [u16],
-    state: ProgramState,
-    world: WorldState,
-    column: u8,
-) -> u16
-    requires { Opened file.now job × Memory (tables_by file.now job) memory.old
-        × InRange (tables_by file.now job) (pair state world) × (column < job_columns job) }
-    ensures { WalkedTo (tables_by file.now job) (pair state world) column result memory.new }
+fn walk_to_fate(job: &OpenJob, memory: &mut [u16], pair: Pair, column: u8) -> u16
+    requires { Memory (tables job.now) memory.old
+        × InRange (tables job.now) pair × (column < job_columns job.now.head) }
+    ensures { WalkedTo (tables job.now) pair column result memory.new }
 {
-    let mut q = state;
-    let mut w = world;
+    let mut here = pair;
     loop {
-        let place = entry_place(job, q, w, column);
+        let place = entry_place(job, here, column);
         let entry = memory[place];
         if entry != 0 {
             if entry < LINKS {
@@ -120,64 +111,46 @@ fn walk_to_fate(
             }
             return ending_entry(Ending::Failure(FailureKind::Circles));
         }
-        let step = one_action(file, job, q, w, column);
-        match step {
+        match one_action(job, here, column) {
             Acted::Ends(ending) => return ending_entry(ending),
-            Acted::Passes(to, next) => return 16 + pair_code(to, next),
-            Acted::Stays(to, next) => {
-                if to.0 == job.states {
-                    return ending_entry(judge(file, job, next, column));
+            Acted::Passes(next) => return 16 + pair_code(next),
+            Acted::Stays(next) => {
+                if next.state.0 == job.head.states {
+                    return ending_entry(judge(job, next.world, column));
                 }
-                memory[place] = LINKS + pair_number(to, next, job.worlds) as u16;
-                q = to;
-                w = next;
+                memory[place] = LINKS + pair_number(next, job.head.worlds) as u16;
+                here = next;
             }
         }
     }
 }
 
-// Writes the entry at the pair and at every pair that the links lead to. It reads no file, so its contract is about any file with
-// this job.
-fn write_along(
-    job: Job,
-    memory: &mut [u16],
-    state: ProgramState,
-    world: WorldState,
-    column: u8,
-    entry: u16,
-)
-    requires { (s : List ℕ) × WalkedTo (tables_by s job) (pair state world) column entry memory.old }
-    ensures { (s : List ℕ) → WalkedTo (tables_by s job) (pair state world) column entry memory.old
-        → Memory (tables_by s job) memory.new }
+// Writes the entry at the pair and at every pair that the links lead to.
+fn write_along(job: &OpenJob, memory: &mut [u16], pair: Pair, column: u8, entry: u16)
+    requires { WalkedTo (tables job.now) pair column entry memory.old }
+    ensures { Memory (tables job.now) memory.new }
 {
     let base = first_place(job, column);
-    let mut pair = pair_number(state, world, job.worlds);
+    let mut number = pair_number(pair, job.head.worlds);
     loop {
-        let place = base + pair;
+        let place = base + number;
         let next = memory[place];
         memory[place] = entry;
         if next < LINKS {
             return;
         }
-        pair = (next - LINKS) as usize;
+        number = (next - LINKS) as usize;
     }
 }
 
-// The fate of the pair at the column. It is for the crates above and not for users: it asks for the job that the reader
-// answered for this file, for a memory, and for a pair and a column of the tables.
-pub fn fate_at(
-    file: &[u8],
-    job: Job,
-    memory: &mut [u16],
-    state: ProgramState,
-    world: WorldState,
-    column: u8,
-) -> Fate
-    requires { Opened file.now job × Memory (tables_by file.now job) memory.old
-        × InRange (tables_by file.now job) (pair state world) × (column < job_columns job) }
-    ensures { LookedUp (tables_by file.now job) (pair state world) column result memory.new }
+// The fate of the pair at the column. It is for the crates above and not for users: it asks for a memory, and for a pair and a column of
+// the job's tables.
+pub fn fate_at(job: &OpenJob, memory: &mut [u16], pair: Pair, column: u8) -> Fate
+    requires { Memory (tables job.now) memory.old
+        × InRange (tables job.now) pair × (column < job_columns job.now.head) }
+    ensures { LookedUp (tables job.now) pair column result memory.new }
 {
-    let entry = walk_to_fate(file, job, memory, state, world, column);
-    write_along(job, memory, state, world, column, entry);
+    let entry = walk_to_fate(job, memory, pair, column);
+    write_along(job, memory, pair, column, entry);
     entry_fate(entry)
 }

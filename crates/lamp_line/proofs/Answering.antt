@@ -1,54 +1,48 @@
 -- Laws of `answer_by`: what an operation answers, refusal by refusal. The proofs of the operations test their refusals by these.
-use mathlib.Core.Path.{◌≡◌, refl}
-use mathlib.Core.Bool.{Bool, true, false, cond}
-use mathlib.Core.Option.{Option, none, some}
-use mathlib.Core.List.{List, [], ◌∷◌, ◌++◌}
-use Prim.Native.Nat.{ℕ}
-use native.Mathlib.Omega.{arith}
-use Rattle.lamp_line.specs.Refusals.{Refusal, ◌when◌, refusal, or_refused, answer_by}
+use Rattle.std.proofs.Common.{◌≡◌, refl, Bool, true, false, cond, List, [], ◌∷◌, ◌++◌, ℕ, None, Ok, Err, arith}
+use Rattle.lamp_line.specs.declared.Refusal.{Refusal}
+use Rattle.lamp_line.specs.Refusals.{Rule, ◌when◌, refusal, or_refused, answer_by}
 
 -- If no refusal of two lists together applies, none of either list applies.
 pub none_of_both :
-    (refusals more : List Refusal) → refusal (refusals ++ more) ≡ none → (refusal refusals ≡ none) × (refusal more ≡ none)
+    (rules more : List Rule) → refusal (rules ++ more) ≡ None → (refusal rules ≡ None) × (refusal more ≡ None)
 unfolding refusal
 none_of_both [] more e = (refl, e)
-none_of_both ((number when true) ∷ refusals) more e = absurd (let z : ◌≡◌ {A = ℕ} 0 1 = cc in omega arith)
-none_of_both ((number when false) ∷ refusals) more e = none_of_both refusals more e
+none_of_both ((because when true) ∷ rules) more e = absurd (let z : ◌≡◌ {A = ℕ} 0 1 = cc in omega arith)
+none_of_both ((because when false) ∷ rules) more e = none_of_both rules more e
 
 -- If no refusal of a list applies, the first does not, and none of the others does.
 pub first_not_applied :
-    (number : ℕ) (applies : Bool) (refusals : List Refusal) → refusal ((number when applies) ∷ refusals) ≡ none →
-    (applies ≡ false) × (refusal refusals ≡ none)
+    (because : Refusal) (applies : Bool) (rules : List Rule) → refusal ((because when applies) ∷ rules) ≡ None →
+    (applies ≡ false) × (refusal rules ≡ None)
 unfolding refusal
-first_not_applied number true refusals e = absurd (let z : ◌≡◌ {A = ℕ} 0 1 = cc in omega arith)
-first_not_applied number false refusals e = (refl, e)
+first_not_applied because true rules e = absurd (let z : ◌≡◌ {A = ℕ} 0 1 = cc in omega arith)
+first_not_applied because false rules e = (refl, e)
 
--- The refusal of a list of refusals is what they answer where there is nothing else to answer.
-pub refusal_is : (refusals : List Refusal) → refusal refusals ≡ answer_by some refusals none
-unfolding answer_by
-refusal_is refusals = by (refusal refusals)
-  where
-    by : (o : Option ℕ) → o ≡ or_refused some o none
-    by none = refl
-    by (some number) = refl
+-- Where a list's refusals rule out those of a second list, these add nothing to it.
+pub no_more : (rules more : List Rule) → (refusal rules ≡ None → refusal more ≡ None) → refusal (rules ++ more) ≡ refusal rules
+unfolding refusal
+no_more [] more none = none refl
+no_more ((because when true) ∷ rules) more none = refl
+no_more ((because when false) ∷ rules) more none = no_more rules more none
 
-module _ {A : Type 0} (refused : ℕ → A) where
-  -- A refusal that applies gives its number; one that does not leaves the answer to the refusals after it.
-  pub by_refusal : (number : ℕ) (applies : Bool) (refusals : List Refusal) (answer : A) →
-      answer_by refused ((number when applies) ∷ refusals) answer ≡ cond applies (refused number) (answer_by refused refusals answer)
+module _ {A : Type 0} where
+  -- A refusal that applies is answered; one that does not leaves the answer to the refusals after it.
+  pub by_refusal : (because : Refusal) (applies : Bool) (rules : List Rule) (answer : A) →
+      answer_by ((because when applies) ∷ rules) answer ≡ cond applies (Err because) (answer_by rules answer)
   unfolding answer_by refusal
-  by_refusal number true refusals answer = refl
-  by_refusal number false refusals answer = refl
+  by_refusal because true rules answer = refl
+  by_refusal because false rules answer = refl
 
   -- Without refusals the operation gives its own answer.
-  pub by_no_refusal : (answer : A) → answer_by refused [] answer ≡ answer
+  pub by_no_refusal : (answer : A) → answer_by [] answer ≡ Ok answer
   unfolding answer_by refusal
   by_no_refusal answer = refl
 
   -- The refusals of the first list decide; if none applies, those of the second do.
-  pub by_refusals_before : (refusals more : List Refusal) (answer : A) →
-      answer_by refused (refusals ++ more) answer ≡ answer_by refused refusals (answer_by refused more answer)
+  pub by_refusals_before : (rules more : List Rule) (answer : A) →
+      answer_by (rules ++ more) answer ≡ or_refused (refusal rules) (answer_by more answer)
   unfolding answer_by refusal
   by_refusals_before [] more answer = refl
-  by_refusals_before ((number when true) ∷ refusals) more answer = refl
-  by_refusals_before ((number when false) ∷ refusals) more answer = by_refusals_before refusals more answer
+  by_refusals_before ((because when true) ∷ rules) more answer = refl
+  by_refusals_before ((because when false) ∷ rules) more answer = by_refusals_before rules more answer

@@ -4,7 +4,7 @@
 -- end that is compared before the lamps.
 use mathlib.Core.Path.{◌≡◌, refl}
 use mathlib.Core.Bool.{Bool, true, cond}
-use mathlib.Core.Option.{Option, none, some}
+use Rattle.std.specs.Prelude.{Option, None, Some}
 use mathlib.Core.List.{List, [], ◌∷◌}
 use Prim.Native.Nat.{ℕ, ◌+◌}
 use lib.Dec.{eqb, ltb}
@@ -48,41 +48,41 @@ run_on t lamps = run_to t 0 lamps
 
 -- State 0 goes to the final state by one action. S·W is 1, so this step is also the last that may be counted.
 abbrev one_step : Tables
-one_step = small 0 1 1 (λ a w c. outcome w 0 ∷ []) (λ w c. true) (λ q r. some (program_state 1))
+one_step = small 0 1 1 (λ a w c. outcome w 0 ∷ []) (λ w c. true) (λ q r. Some (program_state 1))
 
 -- The first state is final, and the goal is true at a lamp only.
 abbrev at_once : Tables
-at_once = small 0 1 0 (λ a w c. []) (λ w c. eqb c 1) (λ q r. none)
+at_once = small 0 1 0 (λ a w c. []) (λ w c. eqb c 1) (λ q r. None)
 
 -- The first state is final, there are two kinds of end, and the goal is true at the end kind 1 only.
 abbrev boxed : Tables
-boxed = small 1 1 0 (λ a w c. []) (λ w c. eqb c 1) (λ q r. none)
+boxed = small 1 1 0 (λ a w c. []) (λ w c. eqb c 1) (λ q r. None)
 
 -- State 0 goes to the final state by one action, of the 2 that S·W allows. The goal is true at a lamp only.
 abbrev stopping : Tables
-stopping = small 0 1 2 (λ a w c. outcome w 0 ∷ []) (λ w c. eqb c 1) (λ q r. some (program_state 2))
+stopping = small 0 1 2 (λ a w c. outcome w 0 ∷ []) (λ w c. eqb c 1) (λ q r. Some (program_state 2))
 
 -- State 0 is met in world states 0, 1 and 2, and is left in world state 2.
 abbrev counting : Tables
 counting =
     small 0 3 1 (λ a w c. cond (ltb w.0 2) (outcome (world_state (w.0 + 1)) 0 ∷ []) (outcome w 1 ∷ []))
     (λ w c. true)
-    (λ q r. cond (eqb r 0) (some (program_state 0)) (some (program_state 1)))
+    (λ q r. cond (eqb r 0) (Some (program_state 0)) (Some (program_state 1)))
 
 -- State 0 looks whether there is a lamp, state 1 moves on: two steps for each lamp, and S·W is 2.
 abbrev passing : Tables
 passing =
     small 0 1 2 (λ a w c. cond (eqb a 0) (outcome w c ∷ []) (outcome w 0 ∷ []))
     (λ w c. eqb c 0)
-    (λ q r. cond (eqb q.0 0) (cond (eqb r 0) (some (program_state 2)) (some (program_state 1))) (some (program_state 0)))
+    (λ q r. cond (eqb q.0 0) (cond (eqb r 0) (Some (program_state 2)) (Some (program_state 1))) (Some (program_state 0)))
 
 -- State 0 goes to itself, and so circles.
 abbrev turning : Tables
-turning = small 0 1 1 (λ a w c. outcome w 0 ∷ []) (λ w c. true) (λ q r. some (program_state 0))
+turning = small 0 1 1 (λ a w c. outcome w 0 ∷ []) (λ w c. true) (λ q r. Some (program_state 0))
 
 -- State 0 has no branch.
 abbrev branchless : Tables
-branchless = small 0 1 1 (λ a w c. outcome w 0 ∷ []) (λ w c. true) (λ q r. none)
+branchless = small 0 1 1 (λ a w c. outcome w 0 ∷ []) (λ w c. true) (λ q r. None)
 
 -- The runs, and a rank. `kind_after_ends` is at a lamp of kind 1, which has column 2. `counted_anew` counts 5 steps along two lamps although
 -- S·W is 2; `ends_at_limit` and `stopped_below` give the same run a limit.

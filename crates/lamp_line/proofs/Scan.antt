@@ -1,14 +1,11 @@
 -- Laws for a loop that looks for a number below n with a property, from 0 upwards: what it knows on the way, and what its answer
--- says. The same for the elements of a list.
-use mathlib.Core.Path.{◌≡◌, refl, sym, subst, ◌∙◌}
-use mathlib.Core.Bool.{Bool, true, false, ◌||◌, false≢true, or-true}
-use mathlib.Core.List.{List, [], ◌∷◌}
-use lib.ListN.{length, get_or}
-use Prim.Native.Nat.{ℕ, zero, suc, ◌+◌, ◌≤◌, ◌<◌}
+-- says. What a test of the elements of a list says of their places.
+use Rattle.std.proofs.Common.{◌≡◌, ◌∙◌, Bool, true, false, ◌||◌, List, [], ◌∷◌, ℕ, zero, suc, ◌+◌, ◌≤◌, ◌<◌, refl, sym, ap, subst, length, get_or, arith}
+use Rattle.std.specs.List.{list_any, between}
+use Rattle.std.proofs.lemmas.List.Edits.{length-between, get_or-between}
+use mathlib.Core.Bool.{false≢true, or-true}
 use native.Mathlib.Decide.{ℕ_discrete}
 use native.Mathlib.Numerals.{add-one}
-use native.Mathlib.Omega.{arith}
-use borrow.Author.Count.{below_more}
 use Rattle.lamp_line.specs.Refusals.{some_below, some_of}
 
 -- The loop is at i, and none of the numbers below i has the property.
@@ -71,35 +68,41 @@ some_at p (suc n) e = at (p n) refl e (some_at p n)
     at true here e earlier = (n, omega arith, here)
     at false here e earlier = let found = earlier e in (found.0, omega (arith, found.1), found.2)
 
--- ---- the same along a list
+-- ---- the elements of a list
 
--- The element at a place has the property: the loop answers true.
-pub list_scan_finds : (p : ℕ → Bool) (l : List ℕ) (i : ℕ) → i < length l → p (get_or l i 0) ≡ true → true ≡ some_of l p
+first_or_later : (p : ℕ → Bool) (n : ℕ) → some_below (suc n) p ≡ (p 0 || some_below n (λ i. p (suc i)))
+unfolding some_below
+first_or_later p zero = refl
+first_or_later p (suc n) = rw (first_or_later p n) (swapped (p (suc n)) (p 0) (some_below n (λ i. p (suc i))))
+  where
+    swapped : (a b c : Bool) → (a || (b || c)) ≡ (b || (a || c))
+    swapped true true c = refl
+    swapped true false c = refl
+    swapped false b c = refl
+
+-- If a test says of the element at each place of a list what a property says of the place, some element passes the test exactly when some
+-- place has the property.
+pub any_by_place :
+    {A : Type 0} (test : A → Bool) (p : ℕ → Bool) (l : List A) (d : A) → ((i : ℕ) → i < length l → test (get_or l i d) ≡ p i) →
+    list_any test l ≡ some_below (length l) p
+unfolding some_below
+any_by_place test p [] d agree = refl
+any_by_place test p (x ∷ l) d agree =
+    rw (agree 0 (omega arith), any_by_place test (λ i. p (suc i)) l d (λ i i<. agree (suc i) (omega arith)))
+    (sym (first_or_later p (length l)))
+
+-- The same of the elements of a part of a list: their places are counted from its beginning.
+pub any_in_part :
+    (test : ℕ → Bool) (l : List ℕ) (from count : ℕ) → from + count ≤ length l →
+    list_any test (between from (from + count) l) ≡ some_below count (λ i. test (get_or l (from + i) 0))
+any_in_part test l from count within =
+    let long : length (between from (from + count) l) ≡ count = length-between l from (from + count) within ∙ omega arith in
+    any_by_place test (λ i. test (get_or l (from + i) 0)) (between from (from + count) l) 0
+    (λ i i<. ap test (get_or-between l from (from + count) i 0 (omega arith)))
+    ∙ ap (λ (n : ℕ). some_below n (λ i. test (get_or l (from + i) 0))) long
+
+-- Some element of a list has a property exactly when some element passes it as a test.
+pub some_of_any : (p : ℕ → Bool) (l : List ℕ) → list_any p l ≡ some_of l p
 unfolding some_of
-list_scan_finds p [] i i< e = absurd (omega arith)
-list_scan_finds p (x ∷ l) zero i< e = rw e
-list_scan_finds p (x ∷ l) (suc i) i< e = rw (sym (list_scan_finds p l i (omega arith) e)) (sym (or-true (p x)))
-
-none_of_places : (p : ℕ → Bool) (l : List ℕ) → ((i : ℕ) → i < length l → p (get_or l i 0) ≡ false) → false ≡ some_of l p
-unfolding some_of
-none_of_places p [] none = refl
-none_of_places p (x ∷ l) none =
-    rw (none 0 (omega arith)) (none_of_places p l (λ i i<. none (suc i) (omega arith)))
-
--- The loop is at place i, and none of the elements before it has the property.
-pub record NoneBefore (p : ℕ → Bool) (l : List ℕ) (i : ℕ) : Type 0 where
-  pub within : i ≤ length l
-  pub none : (n : ℕ) → n < i → p (get_or l n 0) ≡ false
-
--- The loop begins.
-pub none_before_start : {p : ℕ → Bool} {l : List ℕ} → NoneBefore p l 0
-none_before_start = record { within = omega arith; none = λ n n<. absurd (omega arith) }
-
-module _ {p : ℕ → Bool} {l : List ℕ} {i : ℕ} (before : NoneBefore p l i) where
-  -- Nor has i: the loop goes on.
-  pub none_before_more : i < length l → p (get_or l i 0) ≡ false → NoneBefore p l (i + 1)
-  none_before_more i< here = record { within = omega arith; none = below_more _ _ before.none here }
-
-  -- The list has no place i: the loop answers false.
-  pub list_scan_ends : length l ≤ i → false ≡ some_of l p
-  list_scan_ends end = none_of_places p l (λ n n<. before.none n (omega arith))
+some_of_any p [] = refl
+some_of_any p (x ∷ l) = rw (some_of_any p l)

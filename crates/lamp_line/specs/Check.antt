@@ -8,7 +8,7 @@ use Rattle.lamp_line.specs.declared.Ending.TheVariants.{Failure}
 use Rattle.lamp_line.specs.Lists.{NumberOf, ◌≼◌}
 use Rattle.lamp_line.specs.Tables.{Tables, Line, Beginning, Situation, lamp_theory, lamp_problem, plan_of, moves_on}
 use Rattle.lamp_line.specs.Endings.{Leads}
-use Rattle.lamp_line.specs.Run.{Pair}
+use Rattle.lamp_line.specs.declared.Pair.{Pair}
 
 -- A world state, and the part of the line that is left.
 abbrev pub situation : WorldState → Line → Situation

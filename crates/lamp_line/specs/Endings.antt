@@ -1,7 +1,7 @@
 -- How an execution ends (01, "One run"), for any planning problem of 001. It comes to rest with Goal or with failure 1, 2 or 4, or
 -- it goes on for ever, which is failure 3. These definitions have no step counter.
 use Rattle.std.specs.Prelude.{◌≡◌, ◌≢◌, List, ℕ}
-use Rattle.std.proofs.Math.Option.{none}
+use Rattle.std.specs.Prelude.{None}
 use Rattle.plans.specs.Plan.{Action, Result, PlanningProblem, Plan}
 use Rattle.plans.specs.Execution.{Label, T*, Forever}
 use Rattle.lamp_line.specs.declared.FailureKind.{FailureKind}
@@ -24,7 +24,7 @@ module _ (problem : PlanningProblem) (P : Plan) where
   -- The action of q has an outcome whose result has no branch in the plan.
   abbrev pub LacksBranch : P.State → problem.theory.Situation → Type 0
   LacksBranch q s =
-      (r : Result) × (s' : problem.theory.Situation) × problem.theory.Does (P.γ q) s r s' × (P.δ q r ≡ none)
+      (r : Result) × (s' : problem.theory.Situation) × problem.theory.Does (P.γ q) s r s' × (P.δ q r ≡ None)
 
   -- The execution is at rest at q and s, and this is its ending. An execution that circles is never at rest.
   unfoldable pub Ends : Ending → P.State → problem.theory.Situation → Type 0

@@ -1,20 +1,16 @@
 -- One run (01, "One run") as executable definitions: one action, the walk at one lamp, the run along a line, the limit.
 use Rattle.std.specs.Prelude.{Bool, cond, List, [], ◌∷◌, ℕ, zero, suc, ◌+◌, ◌*◌, eqb, leb}
-use Rattle.std.proofs.Math.Option.{Option, none, some}
+use Rattle.std.specs.Prelude.{Option, None, Some}
 use Rattle.plans.specs.Plan.{Action}
 use Rattle.lamp_line.specs.declared.ProgramState.{ProgramState}
 use Rattle.lamp_line.specs.declared.WorldState.{WorldState}
 use Rattle.lamp_line.specs.declared.FailureKind.TheVariants.{NotLegal, NoBranch, Circles, GoalFalse}
 use Rattle.lamp_line.specs.declared.Ending.{Ending}
+use Rattle.lamp_line.specs.declared.Pair.{Pair}
 use Rattle.lamp_line.specs.declared.Ending.TheVariants.{Goal, Failure}
 use Rattle.lamp_line.specs.Tables.{Outcome, outcome, Tables, moves_on, lamp_column, Line}
 
--- A program state and a world state. The check counts these.
-pub record Pair : Type 0 where
-  pub state : ProgramState
-  pub world : WorldState
-
--- A pair by its two parts.
+-- A pair by its two parts, its program state and its world state.
 abbrev pub pair : ProgramState → WorldState → Pair
 pair q w = record { state = q; world = w }
 
@@ -73,8 +69,8 @@ module _ (t : Tables) where
   -- 01, "One run": a result that the plan has no branch for gives failure 2. Otherwise the run goes on with the next world state
   -- and the target, at the next lamp if the action moves on.
   abbrev pub branched : Action → WorldState → Option ProgramState → Move
-  branched a w none = ends (Failure NoBranch)
-  branched a w (some q) = cond (moves_on t a) (passes (pair q w)) (stays (pair q w))
+  branched a w None = ends (Failure NoBranch)
+  branched a w (Some q) = cond (moves_on t a) (passes (pair q w)) (stays (pair q w))
 
   -- 01, "One run": a cell without outcome, which is an action that is not legal, gives failure 1.
   abbrev pub carried_out : ProgramState → List Outcome → Move

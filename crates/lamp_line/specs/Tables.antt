@@ -1,7 +1,7 @@
 -- Lines and tables (01, "The line and its tables"; 02, (c), for the ends of lines), and the lamp line as an action theory of 001. The
 -- tables are functions here; the crate job_layout defines how the bytes of a job file give them.
 use Rattle.std.specs.Prelude.{◌≡◌, Bool, true, cond, not, List, [], ◌∷◌, ℕ, ◌+◌, ◌≤◌, ◌<◌, eqb, drop}
-use Rattle.std.proofs.Math.Option.{Option}
+use Rattle.std.specs.Prelude.{Option}
 use Rattle.plans.specs.Plan.{Action, Result, ActionTheory, PlanningProblem, Plan}
 use Rattle.lamp_line.specs.declared.ProgramState.{ProgramState}
 use Rattle.lamp_line.specs.declared.WorldState.{WorldState}

@@ -7,7 +7,8 @@ use Rattle.lamp_line.specs.declared.Ending.{Ending}
 use Rattle.lamp_line.specs.declared.Ending.TheVariants.{Failure}
 use Rattle.lamp_line.specs.Tables.{Tables, Line, Situation, moves_on, passed, lamp_theory, lamp_problem, plan_of}
 use Rattle.lamp_line.specs.Endings.{Ends}
-use Rattle.lamp_line.specs.Run.{Pair, Walk, ended, arrived, own_steps}
+use Rattle.lamp_line.specs.declared.Pair.{Pair}
+use Rattle.lamp_line.specs.Run.{Walk, ended, arrived, own_steps}
 use Rattle.lamp_line.specs.Check.{situation}
 
 module _ (t : Tables) where

@@ -3,6 +3,7 @@
 
 ghost use Rattle.std.specs.Prelude.{◌≡◌, ◌*◌};
 ghost use Rattle.lamp_line.specs.Endings.{kind_number};
+ghost use Rattle.lamp_line.specs.Refusals.{refusal_number};
 
 // 01, "The line and its tables": program states and world states are numbers of two different sorts. The types keep a value of one
 // sort from being used as the other, and only the function `row` of each type turns a value into a place in a table.
@@ -37,24 +38,28 @@ impl WorldState {
     }
 }
 
-// Failures 1 to 4 (01, "One run").
+// A program state and a world state: where a run is on arriving at a lamp, and what the check counts.
 #[derive(Clone, Copy)]
-pub enum FailureKind {
-    NotLegal,
-    NoBranch,
-    Circles,
-    GoalFalse,
+pub struct Pair {
+    pub state: ProgramState,
+    pub world: WorldState,
 }
 
-// The number that 01 gives to a failure kind.
-pub fn failure_number(kind: FailureKind) -> u8
-    ensures { result ≡ kind_number kind }
-{
-    match kind {
-        FailureKind::NotLegal => 1,
-        FailureKind::NoBranch => 2,
-        FailureKind::Circles => 3,
-        FailureKind::GoalFalse => 4,
+// Failures 1 to 4 (01, "One run").
+#[derive(Clone, Copy, PartialEq, Eq)]
+pub enum FailureKind {
+    NotLegal = 1,
+    NoBranch = 2,
+    Circles = 3,
+    GoalFalse = 4,
+}
+
+impl FailureKind {
+    // The number that 01 gives to a failure kind.
+    pub fn number(self) -> u8
+        ensures { result ≡ kind_number self }
+    {
+        self as u8
     }
 }
 
@@ -70,4 +75,41 @@ pub enum Ending {
 pub struct Cabinet {
     pub state: ProgramState,
     pub lamps: u16,
+}
+
+// Why an operation refuses a call (01, "Who can cause which number"; 02, (a) and (e), for the last four).
+#[derive(Clone, Copy, PartialEq, Eq)]
+pub enum Refusal {
+    FileSize = 1,
+    HeadNumber = 2,
+    PartPlace = 3,
+    PartLength = 4,
+    Mark = 5,
+    Cell = 6,
+    LegalAtEnd = 7,
+    StartMark = 8,
+    GoalCell = 9,
+    PlanAction = 10,
+    PlanTarget = 11,
+    LineBuffer = 12,
+    WorkingSpace = 13,
+    Start = 14,
+    Line = 15,
+    State = 16,
+    AfterEnd = 17,
+    NoTarget = 18,
+    NoLampLeft = 19,
+    LogSize = 20,
+    LogEntry = 21,
+    Rules = 22,
+    CellsLength = 23,
+}
+
+impl Refusal {
+    // The number that 01 and 02 give to a refusal.
+    pub fn number(self) -> u8
+        ensures { result ≡ refusal_number self }
+    {
+        self as u8
+    }
 }

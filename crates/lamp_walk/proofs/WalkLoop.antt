@@ -1,16 +1,11 @@
 -- The loop of the one-lamp walk: k steps are counted, the pair is in range, and the rest of the walk from the first pair is the
 -- walk from here.
-use mathlib.Core.Path.{◌≡◌, sym, ap, ap₂, ◌∙◌}
-use mathlib.Core.List.{List}
-use Prim.Native.Nat.{ℕ, ◌+◌, ◌*◌, ◌≤◌, ◌<◌}
-use native.Mathlib.Nat.{add-zero}
-use native.Mathlib.Omega.{arith}
-use Rattle.lamp_line.specs.declared.ProgramState.{ProgramState}
-use Rattle.lamp_line.specs.declared.WorldState.{WorldState}
+use Rattle.std.proofs.Common.{◌≡◌, sym, ap, ap₂, ◌∙◌, List, ℕ, ◌+◌, ◌*◌, ◌≤◌, ◌<◌, add-zero, arith}
 use Rattle.lamp_line.specs.declared.FailureKind.TheVariants.{NotLegal, NoBranch, Circles, GoalFalse}
 use Rattle.lamp_line.specs.declared.Ending.{Ending}
 use Rattle.lamp_line.specs.declared.Ending.TheVariants.{Goal, Failure}
-use Rattle.lamp_line.specs.Run.{Pair, pair, Walk, ended, arrived, own_steps, act, walk, lamp_walk}
+use Rattle.lamp_line.specs.declared.Pair.{Pair}
+use Rattle.lamp_line.specs.Run.{Walk, ended, arrived, own_steps, act, walk, lamp_walk}
 use Rattle.lamp_line.proofs.Products.{product_le}
 use Rattle.run_laws.specs.inner.Pairs.{InRange}
 use Rattle.run_laws.proofs.Actions.{stays_in_range}
@@ -64,12 +59,13 @@ module _ {s : List ℕ} {j : Job} {c : ℕ} {p₀ : Pair} (opened : Opened s j) 
       }
 
   module _ {k : ℕ} {p : Pair} (walking : Walking s j c p₀ k p) where
-    -- No step is left: the walk is done.
+    -- No step is left: the walk is done, with all of them counted.
     pub walking_spent :
-        {x : Ending} → j.states * j.worlds ≤ k → x ≡ spent_ending (tables_of s) p.state p.world c →
-        ended x k ≡ lamp_walk (tables_of s) p₀ c
+        {x : Ending} → j.states * j.worlds ≤ k → x ≡ spent_ending (tables_of s) p c →
+        ended x (j.states * j.worlds) ≡ lamp_walk (tables_of s) p₀ c
     walking_spent n≤ e =
-        ap (λ x. ended x k) e ∙ whole_walk s opened c p₀ (walk_owes_spent (tables_of s) _ c p₀ k p walking.owes n≤)
+        let all : j.states * j.worlds ≡ k = omega arith in
+        ap₂ ended e all ∙ whole_walk s opened c p₀ (walk_owes_spent (tables_of s) _ c p₀ k p walking.owes n≤)
 
     -- A step is left, and one action is made.
     module _ {step : Acted} (k< : k < j.states * j.worlds) (acts : move_of step ≡ act (tables_of s) p c) where
@@ -80,20 +76,17 @@ module _ {s : List ℕ} {j : Job} {c : ℕ} {p₀ : Pair} (opened : Opened s j) 
           ap (ended x) e ∙ whole_walk s opened c p₀ (walk_owes_ends (tables_of s) _ c p₀ k p walking.owes k< x (ap move_of (sym is) ∙ acts))
 
       -- It passes the lamp: the walk is done, with one more step.
-      pub walking_passes :
-          {q : ProgramState} {w : WorldState} → step ≡ move.Passes q w → arrived (pair q w) (k + 1) ≡ lamp_walk (tables_of s) p₀ c
-      walking_passes {q} {w} is =
-          whole_walk s opened c p₀ (walk_owes_passes (tables_of s) _ c p₀ k p walking.owes k< (pair q w) (ap move_of (sym is) ∙ acts))
+      pub walking_passes : {p' : Pair} → step ≡ move.Passes p' → arrived p' (k + 1) ≡ lamp_walk (tables_of s) p₀ c
+      walking_passes {p'} is =
+          whole_walk s opened c p₀ (walk_owes_passes (tables_of s) _ c p₀ k p walking.owes k< p' (ap move_of (sym is) ∙ acts))
 
       -- It stays: the loop goes on, with one more step.
-      pub walking_stays :
-          {q : ProgramState} {w : WorldState} → step ≡ move.Stays q w →
-          Walking s j c p₀ (k + 1) (pair q w)
-      walking_stays {q} {w} is =
+      pub walking_stays : {p' : Pair} → step ≡ move.Stays p' → Walking s j c p₀ (k + 1) p'
+      walking_stays {p'} is =
           let stayed = ap move_of (sym is) ∙ acts in
           record {
             few = walking.few;
             within = omega arith;
-            in_range = rw (tables_are s j opened) (stays_in_range (tables_of s) (well_formed s j opened) p (pair q w) c stayed);
-            owes = walk_owes_stays (tables_of s) _ c p₀ k p walking.owes k< (pair q w) stayed;
+            in_range = rw (tables_are s j opened) (stays_in_range (tables_of s) (well_formed s j opened) p p' c stayed);
+            owes = walk_owes_stays (tables_of s) _ c p₀ k p walking.owes k< p' stayed;
           }

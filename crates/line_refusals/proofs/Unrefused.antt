@@ -1,14 +1,9 @@
 -- What is known of a call with a start and a line that is not refused: its file is not, and neither 14 nor 15 applies.
-use mathlib.Core.Path.{◌≡◌, refl, sym}
-use mathlib.Core.Bool.{Bool, true, false, ◌||◌, not}
-use mathlib.Core.Option.{none}
-use mathlib.Core.List.{List, [], ◌∷◌}
-use Prim.Native.Nat.{ℕ, ◌≤◌}
-use lib.Dec.{leb}
-use lib.ListN.{length}
+use Rattle.std.proofs.Common.{◌≡◌, refl, sym, Bool, true, false, ◌||◌, not, List, [], ◌∷◌, ℕ, ◌≤◌, leb, length, None}
 use Rattle.lamp_line.specs.declared.WorldState.{WorldState}
+use Rattle.lamp_line.specs.declared.Refusal.TheVariants as refused
 use Rattle.lamp_line.specs.Tables.{Tables, Line, Beginning}
-use Rattle.lamp_line.specs.Refusals.{Refusal, ◌when◌, refusal}
+use Rattle.lamp_line.specs.Refusals.{Rule, ◌when◌, refusal}
 use Rattle.lamp_line.proofs.Answering.{none_of_both, first_not_applied}
 use Rattle.job_layout.specs.Layout.{head}
 use Rattle.job_layout.specs.JobTables.{tables_of}
@@ -24,8 +19,8 @@ pub record UnrefusedLine (s : List ℕ) (start : WorldState) (line : Line) : Typ
   pub few : length line.lamps ≤ 65535
 
 -- The two refusals besides those of the file.
-abbrev own : Tables → WorldState → Line → List Refusal
-own t start line = (14 when start_unmarked t start) ∷ (15 when line_wrong t.ends t.kinds line) ∷ []
+abbrev own : Tables → WorldState → Line → List Rule
+own t start line = (refused.Start when start_unmarked t start) ∷ (refused.Line when line_wrong t.ends t.kinds line) ∷ []
 
 marked_unless : (a b : Bool) → (a || not b) ≡ false → b ≡ true
 marked_unless a true e = refl
@@ -34,12 +29,12 @@ marked_unless false false e = sym e
 
 -- This is known where none of the refusals applies.
 pub unrefused_line :
-    (s : List ℕ) (start : WorldState) (line : Line) → refusal (line_refusals s start line) ≡ none → UnrefusedLine s start line
+    (s : List ℕ) (start : WorldState) (line : Line) → refusal (line_refusals s start line) ≡ None → UnrefusedLine s start line
 unrefused_line s start line e =
     let opened = opened_unrefused s (own (tables_of s) start line) e in
     let (marked, after) =
-    first_not_applied 14 (start_unmarked (tables_of s) start) _ (none_of_both (file_refusals s) (own (tables_of s) start line) e).1 in
-    let (right, _) = first_not_applied 15 (line_wrong (tables_of s).ends (tables_of s).kinds line) [] after in
+    first_not_applied refused.Start (start_unmarked (tables_of s) start) _ (none_of_both (file_refusals s) (own (tables_of s) start line) e).1 in
+    let (right, _) = first_not_applied refused.Line (line_wrong (tables_of s).ends (tables_of s).kinds line) [] after in
     record {
       opened = opened;
       beginning =

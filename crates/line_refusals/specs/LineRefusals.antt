@@ -1,8 +1,9 @@
 -- Refusals 14 and 15 (01, "Who can cause which number"; 02, (c), for the end kind): the start and the line that an operation is handed.
 use Rattle.std.specs.Prelude.{Bool, ◌||◌, not, List, [], ◌∷◌, ◌++◌, ℕ, leb, ltb, length}
 use Rattle.lamp_line.specs.declared.WorldState.{WorldState}
+use Rattle.lamp_line.specs.declared.Refusal.TheVariants as refused
 use Rattle.lamp_line.specs.Tables.{Tables, Line, kinds_of_ends}
-use Rattle.lamp_line.specs.Refusals.{Refusal, ◌when◌, some_of}
+use Rattle.lamp_line.specs.Refusals.{Rule, ◌when◌, some_of}
 use Rattle.job_layout.specs.FileRefusals.{outside}
 use Rattle.job_layout.specs.JobTables.{tables_of}
 use Rattle.job_file.specs.Reading.{file_refusals}
@@ -17,6 +18,7 @@ line_wrong ends kinds line =
     ltb 65535 (length line.lamps) || some_of line.lamps (outside 1 kinds) || leb (kinds_of_ends ends) line.end
 
 -- The refusals of an operation that is handed a file, a start and a line: those of the file, then these two.
-abbrev pub line_refusals : List ℕ → WorldState → Line → List Refusal
+abbrev pub line_refusals : List ℕ → WorldState → Line → List Rule
 line_refusals s start line =
-    file_refusals s ++ (14 when start_unmarked (tables_of s) start) ∷ (15 when line_wrong (tables_of s).ends (tables_of s).kinds line) ∷ []
+    file_refusals s ++ (refused.Start when start_unmarked (tables_of s) start)
+    ∷ (refused.Line when line_wrong (tables_of s).ends (tables_of s).kinds line) ∷ []

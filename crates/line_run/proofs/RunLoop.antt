@@ -1,18 +1,12 @@
 -- The loop of the run: k steps are counted up to this lamp, the pair is in range, the lamps left are of the job's kinds, and the
 -- rest of the whole run is the run from here.
-use mathlib.Core.Path.{◌≡◌, refl, sym, ap, ◌∙◌}
-use mathlib.Core.Bool.{true}
-use mathlib.Core.List.{List, [], ◌∷◌}
-use Prim.Native.Nat.{ℕ, ◌+◌, ◌-◌, ◌≤◌, ◌<◌}
-use native.Mathlib.Omega.{arith}
-use lib.ListN.{length, get_or, take, drop, length-drop}
-use lib.Seq.{take_all}
-use Rattle.lamp_line.specs.declared.ProgramState.{ProgramState}
+use Rattle.std.proofs.Common.{◌≡◌, sym, ap, ◌∙◌, true, List, [], ◌∷◌, ℕ, ◌+◌, ◌-◌, ◌≤◌, ◌<◌, length, get_or, take, drop, take_all, length-drop, arith}
 use Rattle.lamp_line.specs.declared.WorldState.{WorldState}
 use Rattle.lamp_line.specs.declared.Ending.{Ending}
 use Rattle.lamp_line.specs.Tables.{line_of, lamp_column, columns, column_of, column, Kinds, Fits}
 use Rattle.job_layout.specs.Layout.{job_columns}
-use Rattle.lamp_line.specs.Run.{Pair, pair, arrived, ran, lamp_walk, along, run, limited}
+use Rattle.lamp_line.specs.declared.Pair.{Pair}
+use Rattle.lamp_line.specs.Run.{pair, arrived, ran, lamp_walk, along, run, limited}
 use Rattle.lamp_line.proofs.Columns.{lamp_column_in}
 use Rattle.run_laws.specs.inner.Pairs.{InRange}
 use Rattle.run_laws.proofs.Columns.{column_is_below}
@@ -27,8 +21,8 @@ use Rattle.job_tables.proofs.Ranges.{worlds_are, ends_are, first_is, well_formed
 use Rattle.lamp_walk.specs.declared.Walked.{Walked}
 use Rattle.lamp_walk.specs.declared.Walked.TheVariants as walked
 use Rattle.lamp_walk.specs.inner.Walking.{walk_of}
-use Rattle.line_run.specs.declared.RunAnswer.{RunAnswer}
-use Rattle.line_run.specs.declared.RunAnswer.TheVariants as answer
+use Rattle.line_run.specs.declared.Ran.{Ran}
+use Rattle.line_run.specs.declared.Ran.TheVariants as answer
 
 -- ---- the rest of a line
 
@@ -46,26 +40,13 @@ part_after_lem lamps = take_all (length lamps - 1) (drop 1 lamps) (omega (arith,
 pub rest_shorter : (lamps : List ℕ) → 0 < length lamps → length (take (length lamps - 1) (drop 1 lamps)) < length lamps
 rest_shorter lamps some = rw (part_after_lem lamps) (omega (arith, length-drop 1 lamps))
 
--- ---- the column of a line
-
--- At the line's end the column is the end's.
-pub column_at_end : (ends end : ℕ) (lamps : List ℕ) → length lamps ≡ 0 → end ≡ column_of ends end lamps
-column_at_end ends end [] e = refl
-column_at_end ends end (kind ∷ lamps) e = absurd (omega arith)
-
--- At a lamp the column is the lamp's.
-pub column_at_lamp :
-    (ends end : ℕ) (lamps : List ℕ) {c : ℕ} → ¬ (length lamps ≡ 0) → c ≡ lamp_column ends (get_or lamps 0 0) → c ≡ column_of ends end lamps
-column_at_lamp ends end [] e is = absurd (e refl)
-column_at_lamp ends end (kind ∷ lamps) e is = is
-
--- It is one of the columns, of which there are few.
+-- A lamp's column is one of the columns, of which there are few.
 pub lamp_column_small :
-    (ends kinds : ℕ) (lamps : List ℕ) → ¬ (length lamps ≡ 0) → Kinds kinds lamps → columns ends kinds ≤ 16 →
+    (ends kinds : ℕ) (lamps : List ℕ) → 1 ≤ length lamps → Kinds kinds lamps → columns ends kinds ≤ 16 →
     lamp_column ends (get_or lamps 0 0) ≤ 255
 unfolding Kinds
-lamp_column_small ends kinds [] e k few = absurd (e refl)
-lamp_column_small ends kinds (kind ∷ lamps) e k few = omega (arith, lamp_column_in ends kinds kind k.1)
+lamp_column_small ends kinds [] some k few = absurd (omega arith)
+lamp_column_small ends kinds (kind ∷ lamps) some k few = omega (arith, lamp_column_in ends kinds kind k.1)
 
 -- ---- the loop
 
@@ -99,10 +80,6 @@ module _ {s : List ℕ} {j : Job} {limit end : ℕ} {lamps₀ : List ℕ} {start
     whole_run : along (tables_of s) end lamps₀ (pair j.first start) ≡ run (tables_of s) start (line_of end lamps₀)
     whole_run = ap (λ q. along (tables_of s) end lamps₀ (pair q start)) (first_is s j opened)
 
-    -- The lamps left are of the job's kinds.
-    pub running_kinds : Kinds j.kinds rest
-    running_kinds = running.fits.of_kinds
-
     -- The column at which the line goes on is one of the job's.
     pub running_column_in : {c : ℕ} → c ≡ column_of j.ends end rest → c < job_columns j
     running_column_in is = rw is (column_is_below (tables_by s j) running.fits)
@@ -114,7 +91,7 @@ module _ {s : List ℕ} {j : Job} {limit end : ℕ} {lamps₀ : List ℕ} {start
 
       -- It ends the run.
       pub running_ends :
-          {x : Ending} {n : ℕ} {r : RunAnswer} → v ≡ walked.Ended x n → r ≡ run_answer_of (limited limit (ran x (k + n))) →
+          {x : Ending} {n : ℕ} {r : Ran} → v ≡ walked.Ended x n → r ≡ run_answer_of (limited limit (ran x (k + n))) →
           r ≡ run_answer_of (limited limit (run (tables_of s) start (line_of end lamps₀)))
       running_ends {x} {n} told e =
           e
@@ -123,32 +100,32 @@ module _ {s : List ℕ} {j : Job} {limit end : ℕ} {lamps₀ : List ℕ} {start
           (ap walk_of (sym told) ∙ walks ∙ ap (lamp_walk (tables_of s) p) is_column) ∙ whole_run)
 
       -- It passes the lamp.
-      module _ {q : ProgramState} {w : WorldState} {n : ℕ} (told : v ≡ walked.Arrived q w n) where
-        arrives : arrived (pair q w) n ≡ lamp_walk (tables_of s) p c
+      module _ {p' : Pair} {n : ℕ} (told : v ≡ walked.Arrived p' n) where
+        arrives : arrived p' n ≡ lamp_walk (tables_of s) p c
         arrives = ap walk_of (sym told) ∙ walks
 
-        at_column : arrived (pair q w) n ≡ lamp_walk (tables_of s) p (column (tables_of s) (line_of end rest))
+        at_column : arrived p' n ≡ lamp_walk (tables_of s) p (column (tables_of s) (line_of end rest))
         at_column = arrives ∙ ap (lamp_walk (tables_of s) p) is_column
 
         -- There is a lamp to pass.
         pub running_at_lamp : 0 < length rest
         running_at_lamp =
-            arrived_at_lamp (tables_of s) (well_formed s j opened) _ p (pair q w) (line_of end rest) n
+            arrived_at_lamp (tables_of s) (well_formed s j opened) _ p p' (line_of end rest) n
             (rw (ends_are s j opened) at running.fits.ended) at_column
 
-        owes_on : RunOwes (tables_of s) end lamps₀ (pair j.first start) (k + n) (drop 1 rest) (pair q w)
-        owes_on = run_owes_passes (tables_of s) end lamps₀ _ k rest p running.owes running_at_lamp (pair q w) n at_column
+        owes_on : RunOwes (tables_of s) end lamps₀ (pair j.first start) (k + n) (drop 1 rest) p'
+        owes_on = run_owes_passes (tables_of s) end lamps₀ _ k rest p running.owes running_at_lamp p' n at_column
 
         -- The loop goes on after the lamp.
         pub running_passes :
             k + n ≤ limit →
-            Running s j limit end lamps₀ (pair j.first start) (k + n) (take (length rest - 1) (drop 1 rest)) (pair q w)
+            Running s j limit end lamps₀ (pair j.first start) (k + n) (take (length rest - 1) (drop 1 rest)) p'
         running_passes within =
             rw (part_after_lem rest)
             (record {
               within = within;
               in_range =
-                  rw (tables_are s j opened) (arrived_in_range (tables_of s) (well_formed s j opened) _ p (pair q w) c n arrives);
+                  rw (tables_are s j opened) (arrived_in_range (tables_of s) (well_formed s j opened) _ p p' c n arrives);
               fits = record { of_kinds = kinds_after j.kinds rest running.fits.of_kinds; ended = running.fits.ended };
               owes = owes_on;
             })
@@ -158,5 +135,5 @@ module _ {s : List ℕ} {j : Job} {limit end : ℕ} {lamps₀ : List ℕ} {start
             limit < k + n → answer.Stopped limit ≡ run_answer_of (limited limit (run (tables_of s) start (line_of end lamps₀)))
         running_stopped beyond =
             ap run_answer_of
-            (run_owes_stopped (tables_of s) end lamps₀ _ (k + n) (drop 1 rest) (pair q w) owes_on limit beyond
+            (run_owes_stopped (tables_of s) end lamps₀ _ (k + n) (drop 1 rest) p' owes_on limit beyond
             ∙ ap (limited limit) whole_run)

@@ -8,11 +8,9 @@ use native.Mathlib.Omega.{arith}
 use lib.Dec.{eqb}
 use lib.ListN.{length, get_or, set, length-set}
 use lib.Seq.{get_or-set_same, get_or-set_other}
-use Rattle.lamp_line.specs.declared.ProgramState.{ProgramState}
-use Rattle.lamp_line.specs.declared.WorldState.{WorldState}
+use Rattle.lamp_line.specs.declared.Pair.{Pair}
 use Rattle.lamp_line.specs.Tables.{Tables, kinds_of_ends, columns}
 use Rattle.lamp_line.specs.inner.WellFormed.{WellFormed}
-use Rattle.lamp_line.specs.Run.{pair}
 use Rattle.run_laws.specs.inner.Pairs.{InRange, pair_number, pairs}
 use Rattle.run_laws.proofs.Pairs.{pairs_few, pair_number_in}
 use Rattle.job_layout.specs.declared.Job.{Job}
@@ -21,53 +19,43 @@ use Rattle.pair_bits.specs.Sum.{bit_at}
 use Rattle.pair_bits.specs.inner.Bits.{OnlySet}
 use Rattle.pair_bits.proofs.Sums.{sum_set}
 use Rattle.search_laws.specs.inner.Entries.{entry, grown}
-use Rattle.check_laws.specs.inner.Search.{quiet, tried, met, line_start, line_lamps, line_entry}
+use Rattle.check_laws.specs.inner.Search.{met, line_start, line_lamps, line_entry}
 use Rattle.check_laws.proofs.MetPairs.{met_new, met_other}
 use Rattle.working_list.specs.declared.Placed.{Placed}
-use Rattle.line_trial.specs.declared.Tried.{Tried}
-use Rattle.line_trial.specs.declared.Tried.TheVariants as tried_as
-use Rattle.line_trial.specs.declared.MemberEnd.TheVariants.{Holds}
-use Rattle.working_list.specs.inner.Placing.{packed, unpacked, Packable, placed_pair, MemberOf}
+use Rattle.std.specs.Prelude.{Option, Some, Ok}
+use Rattle.working_list.specs.inner.Placing.{packed, unpacked, Packable, MemberOf}
 use Rattle.working_list.specs.inner.Listing.{table, Listed}
-use Rattle.line_trial.specs.inner.Trials.{Ready, HasMember, EndsNew, TriesLine}
-use Rattle.line_trial.specs.inner.Turning.{adds, grows, was_quiet, was_new, stays, Turned}
+use Rattle.line_trial.specs.inner.Trials.{Tried, HasMember, EndsNew, TriesLine}
+use Rattle.line_trial.specs.inner.Turning.{adds, grows, was_new, Turned}
 use Rattle.working_list.proofs.EntryLaws.{unpacked_packed, entries_stored}
 use Rattle.working_list.proofs.ListLaws.{table_length, room_left}
-use Rattle.line_trial.proofs.TryingEnds.{ready_tables}
+use Rattle.job_file.specs.Reading.{Opened}
+use Rattle.job_file.proofs.WellFormed.{well_formed_by}
 use Rattle.line_trial.proofs.LineTried.{tries_new}
 
--- Nothing is new: the list stays as it is.
-pub nothing_new :
-    {t : Tables} {list words : List ℕ} {n before member kind : ℕ} (clean : Bool) → Listed t list words n →
-    tried t (table t list n) member kind ≡ quiet → Turned t list n before member kind clean (Holds n) list words
-nothing_new true listed e = record { so = (grows refl (stays e refl), listed, omega arith) }
-nothing_new false listed e = record { so = (was_quiet refl e refl refl, listed, omega arith) }
-
 -- The line that is tried from a member reaches its end with a new pair.
-pub record NewPair (t : Tables) (list words : List ℕ) (n member kind : ℕ) (state : ProgramState) (world : WorldState) : Type 0 where
+pub record NewPair (t : Tables) (list words : List ℕ) (n member kind : ℕ) (p : Pair) : Type 0 where
   pub well_formed : WellFormed t
   pub listed : Listed t list words n
   pub here : HasMember t n member kind
-  pub comes : EndsNew t (table t list n) member kind words (pair state world)
+  pub comes : EndsNew t (table t list n) member kind words p
 
 -- `try_line` has answered so.
 pub new_pair :
-    {s : List ℕ} {j : Job} {memory list words : List ℕ} {n member kind : ℕ} {state : ProgramState} {world : WorldState} {r : Tried}
-    {memory' : List ℕ} →
-    Ready s j memory × Listed (tables_by s j) list words n × HasMember (tables_by s j) n member kind →
-    TriesLine (tables_by s j) (table (tables_by s j) list n) member kind words r memory' → r ≡ tried_as.New state world →
-    NewPair (tables_by s j) list words n member kind state world
-new_pair asked tries e =
-    record { well_formed = ready_tables asked.0; listed = asked.1; here = asked.2; comes = tries_new tries e }
+    (s : List ℕ) {j : Job} {list words : List ℕ} {n member kind : ℕ} {p : Pair} {r : Tried} {o : Option Pair} {memory' : List ℕ} →
+    Opened s j → Listed (tables_by s j) list words n → HasMember (tables_by s j) n member kind →
+    TriesLine (tables_by s j) (table (tables_by s j) list n) member kind words r memory' → r ≡ Ok o → o ≡ Some p →
+    NewPair (tables_by s j) list words n member kind p
+new_pair s {j} opened listed here tries was is =
+    record { well_formed = well_formed_by s j opened; listed = listed; here = here; comes = tries_new tries (was ∙ ap Ok is) }
 
 module _
-    {t : Tables} {list words : List ℕ} {n member kind : ℕ} {state : ProgramState} {world : WorldState}
-    (new : NewPair t list words n member kind state world) where
+    {t : Tables} {list words : List ℕ} {n member kind : ℕ} {p : Pair} (new : NewPair t list words n member kind p) where
   abbrev y : ℕ
-  y = pair_number t.worlds (pair state world)
+  y = pair_number t.worlds p
 
   y_bound : y < pairs t
-  y_bound = pair_number_in t (pair state world) new.comes.range
+  y_bound = pair_number_in t p new.comes.range
 
   some_left : n < pairs t
   some_left = room_left new.listed y y_bound new.comes.unmarked
@@ -102,7 +90,7 @@ module _
   -- What is put in the list: the list held `before` pairs before the line was tried.
   module _ (before : ℕ) where
     abbrev placed : Placed
-    placed = record { state = state; world = world; member = member; kind = kind; opens = eqb n before }
+    placed = record { pair = p; member = member; kind = kind; opens = eqb n before }
 
     -- The pair, its member and its kind fit in a word.
     pub packable : Packable placed
@@ -152,7 +140,7 @@ module _
           record {
             bits = bits_match;
             counted = sum_set new.listed.counted y_bound new.comes.unmarked only;
-            ranges = all_words (λ i r. InRange t (placed_pair r)) new.listed.ranges new.comes.range;
+            ranges = all_words (λ i r. InRange t r.pair) new.listed.ranges new.comes.range;
             chained = all_words (λ i r. MemberOf i r.member r.kind) new.listed.chained member_of;
             list_room = omega (arith, new.listed.list_room, length-set list n (packed placed));
             bits_room = omega (arith, new.listed.bits_room, only.long);
@@ -162,12 +150,12 @@ module _
   -- its bit is set.
   pub pair_placed :
       (before : ℕ) {clean : Bool} {words' : List ℕ} {word bit : ℕ} → clean ≡ true → word ≡ packed (placed before) → bit ≡ y →
-      OnlySet words words' bit → Turned t list n before member kind clean (Holds (n + 1)) (set list n word) words'
+      OnlySet words words' bit → Turned t list n before member kind clean (Ok (n + 1)) (set list n word) words'
   pair_placed before {clean} {words'} none is_Is_word is_bit only_bit =
       let only : OnlySet words words' y = rw is_bit at only_bit in
       rw is_Is_word
       (record { so = (grows none (adds new.comes.found (table_grown before)), listed_placed before only, omega arith) })
 
   -- After a failure the list stays as it is.
-  pub pair_passed : (before : ℕ) {clean : Bool} → clean ≡ false → Turned t list n before member kind clean (Holds n) list words
+  pub pair_passed : (before : ℕ) {clean : Bool} → clean ≡ false → Turned t list n before member kind clean (Ok n) list words
   pair_passed before some = record { so = (was_new some new.comes.found refl refl, new.listed, omega arith) }

@@ -10,13 +10,12 @@ use borrow.Author.Tests.{eqb-true, eq-eqb}
 use lib.Dec.{eqb}
 use lib.ListN.{length}
 use Rattle.lamp_line.specs.declared.FailureKind.{FailureKind}
-use Rattle.lamp_line.specs.declared.ProgramState.{ProgramState}
-use Rattle.lamp_line.specs.declared.WorldState.{WorldState}
 use Rattle.lamp_line.specs.declared.Ending.TheVariants.{Goal, Failure}
 use Rattle.lamp_line.specs.Tables.{Tables, kinds_of_ends}
 use Rattle.lamp_line.specs.inner.WellFormed.{WellFormed}
 use Rattle.lamp_line.specs.Endings.{kind_number}
-use Rattle.lamp_line.specs.Run.{Pair, pair, Walk, ended, arrived, lamp_walk}
+use Rattle.lamp_line.specs.declared.Pair.{Pair}
+use Rattle.lamp_line.specs.Run.{Walk, ended, arrived, lamp_walk}
 use Rattle.lamp_line.proofs.Columns.{up_to_last_end, end_column_in}
 use Rattle.run_laws.specs.inner.Pairs.{InRange, pair_number, pairs}
 use Rattle.run_laws.proofs.Pairs.{pair_number_in}
@@ -34,7 +33,7 @@ use Rattle.check_laws.specs.inner.Fates.{AtEnds, good, bad, fate_of, fate, at_en
 use Rattle.check_laws.specs.inner.Search.{Trial, fails_at, quiet, met, visited, visit, at_lamp, tried}
 use Rattle.check_laws.proofs.FateLaws.{fate_of_pair}
 use Rattle.check_laws.proofs.Ends.{EndsSay, ends_say}
-use Rattle.line_trial.specs.declared.Tried.TheVariants as tried_as
+use Rattle.std.specs.Prelude.{None, Some, Ok, Err}
 use Rattle.working_list.specs.inner.Listing.{table, Listed}
 use Rattle.line_trial.specs.inner.Trials.{Ready, Going, going_at_lamp, going_at_end, Goes, TriedBelow, EndsSoFar, TriesEnd}
 use Rattle.job_file.proofs.WellFormed.{well_formed_by}
@@ -67,17 +66,17 @@ module _ {t : Tables} {p : Pair} {column : ℕ} {r : Fate} {memory' : List ℕ} 
 
   -- The pair with which a walk arrives is one of the tables.
   arrives_in_range :
-      WellFormed t → {state : ProgramState} {world : WorldState} → r ≡ Arrives state world → InRange t (pair state world)
-  arrives_in_range wf {state} {world} e =
-      let (k, is) = arrived_so (lamp_walk t p column) (pair state world) (sym (ap walk_to e) ∙ looked.fate_is) in
-      arrived_in_range t wf (t.states * t.worlds) p (pair state world) column k is
+      WellFormed t → {next : Pair} → r ≡ Arrives next → InRange t next
+  arrives_in_range wf {next} e =
+      let (k, is) = arrived_so (lamp_walk t p column) next (sym (ap walk_to e) ∙ looked.fate_is) in
+      arrived_in_range t wf (t.states * t.worlds) p next column k is
 
 -- The fate is no failure; it is no pair with which the line goes on.
 abbrev pub NotFailed : Fate → Type 0
 NotFailed r = (x : FailureKind) → r ≢ Fails x
 
 abbrev pub NotArrived : Fate → Type 0
-NotArrived r = (q : ProgramState) (w : WorldState) → r ≢ Arrives q w
+NotArrived r = (p : Pair) → r ≢ Arrives p
 
 -- What is not answered as a failure is none.
 no_failure :
@@ -85,7 +84,7 @@ no_failure :
     (failure : FailureKind) → fate_of worlds (walk_to r) ≢ fates.fails failure
 no_failure worlds Succeeds h failure e = let z : ◌≡◌ {A = ℕ} 0 1 = cc in omega arith
 no_failure worlds (Fails x) h failure e = h x refl
-no_failure worlds (Arrives q w) h failure e = let z : ◌≡◌ {A = ℕ} 0 1 = cc in omega arith
+no_failure worlds (Arrives p) h failure e = let z : ◌≡◌ {A = ℕ} 0 1 = cc in omega arith
 
 -- If it is also no pair with which the line goes on, it is success.
 succeeds_then :
@@ -93,23 +92,22 @@ succeeds_then :
     fate_of worlds (walk_to r) ≡ fates.succeeds
 succeeds_then worlds Succeeds h k = refl
 succeeds_then worlds (Fails x) h k = absurd (h x refl)
-succeeds_then worlds (Arrives q w) h k = absurd (k q w refl)
+succeeds_then worlds (Arrives p) h k = absurd (k p refl)
 
 -- ---- the loop that tries a line with one end
 
 -- The line goes on with a pair at a column.
 pub record Trying
-    (s : List ℕ) (j : Job) (memory list words : List ℕ) (n member kind end : ℕ) (state : ProgramState) (world : WorldState) (column : ℕ) :
-    Type 0 where
+    (s : List ℕ) (j : Job) (memory list words : List ℕ) (n member kind end : ℕ) (p : Pair) (column : ℕ) : Type 0 where
   pub ready : Ready s j memory
   pub listed : Listed (tables_by s j) list words n
   pub is_end : end ≤ j.ends
   pub below : TriedBelow (tables_by s j) (table (tables_by s j) list n) member kind end
-  pub goes : Goes (tables_by s j) (table (tables_by s j) list n) member kind end (pair state world) column
+  pub goes : Goes (tables_by s j) (table (tables_by s j) list n) member kind end p column
 
 module _
-    {s : List ℕ} {j : Job} {memory list words : List ℕ} {n member kind end : ℕ} {state : ProgramState} {world : WorldState} {column : ℕ}
-    (trying : Trying s j memory list words n member kind end state world column) where
+    {s : List ℕ} {j : Job} {memory list words : List ℕ} {n member kind end : ℕ} {p : Pair} {column : ℕ}
+    (trying : Trying s j memory list words n member kind end p column) where
   abbrev t : Tables
   t = tables_by s j
 
@@ -117,7 +115,7 @@ module _
   E = table t list n
 
   abbrev y : ℕ
-  y = pair_number t.worlds (pair state world)
+  y = pair_number t.worlds p
 
   abbrev trial : Trial
   trial = tried t E member kind
@@ -126,7 +124,7 @@ module _
   GoingOn = Going t E member kind end y column
 
   y_bound : y < pairs t
-  y_bound = pair_number_in t (pair state world) trying.goes.range
+  y_bound = pair_number_in t p trying.goes.range
 
   bit_is : bit_at words y ≡ met E y
   bit_is = trying.listed.bits y y_bound
@@ -137,7 +135,7 @@ module _
 
   module _ {x : ℕ} {b : Bool} (is_number : x ≡ y) (is_met : b ≡ (eqb column 0 && bit_at words x)) where
     -- The line is at the lowest end, with a pair that was met: nothing is new.
-    pub tries_met : b ≡ true → TriesEnd t E member kind end words tried_as.Nothing memory
+    pub tries_met : b ≡ true → TriesEnd t E member kind end words (Ok None) memory
     tries_met yes_met = record { so = go trying.goes.going; remembers = trying.ready.remembers }
       where
         both : (eqb column 0 ≡ true) × (bit_at words x ≡ true)
@@ -148,7 +146,7 @@ module _
         go (going_at_end is f) =
             f ∙ ap (λ (m : Bool). visited y m (at_ends t y)) (sym bit_is ∙ ap (bit_at words) (sym is_number) ∙ both.1)
 
-    module _ (not_met : b ≡ false) {r : Fate} {memory' : List ℕ} (looked : LookedUp t (pair state world) column r memory') where
+    module _ (not_met : b ≡ false) {r : Fate} {memory' : List ℕ} (looked : LookedUp t p column r memory') where
       -- At its end, the pair is new: it was found so at the lowest end.
       new_here : column ≡ end → trial ≡ visit t E y → met E y ≡ false
       new_here is f = by (ℕ_discrete column 0)
@@ -168,7 +166,7 @@ module _
 
       -- The pair's fate is a failure: the line fails with this end.
       pub tries_failing :
-          {failure : FailureKind} → r ≡ Fails failure → TriesEnd t E member kind end words (tried_as.Fails failure end) memory'
+          {failure : FailureKind} → r ≡ Fails failure → TriesEnd t E member kind end words (Err (record { failure = failure; end = end })) memory'
       unfolding kinds_of_ends
       tries_failing {failure} e = record { so = go trying.goes.going; remembers = looked.memory }
         where
@@ -203,7 +201,7 @@ module _
 
       -- Its fate is not a failure, and the line is at its end: the pair is new, and does not fail with this end.
       pub tries_ending :
-          NotFailed r → column ≡ end → TriesEnd t E member kind end words (tried_as.New state world) memory'
+          NotFailed r → column ≡ end → TriesEnd t E member kind end words (Ok (Some p)) memory'
       tries_ending no_fail here = record { so = go trying.goes.going; remembers = looked.memory }
         where
           succeeds : (failure : FailureKind) → fate t y end ≢ fates.fails failure
@@ -232,7 +230,7 @@ module _
               by failure e below (yes same) = rw same (not_this (at_ends t y) f (ends_say t y) failure)
               by failure e below (no other) = trying.below.none_fails failure e (omega arith)
 
-          go : GoingOn → EndsSoFar t E member kind end words (pair state world)
+          go : GoingOn → EndsSoFar t E member kind end words p
           go (going_at_lamp after f) = absurd (omega (arith, trying.is_end))
           go (going_at_end is f) =
               record {
@@ -242,30 +240,21 @@ module _
                 tried_below = up_to_here (visits is f);
               }
 
-  module _ {r : Fate} {memory' : List ℕ} (looked : LookedUp t (pair state world) column r memory') (lamp : column ≢ end) where
+  module _ {r : Fate} {memory' : List ℕ} (looked : LookedUp t p column r memory') (lamp : column ≢ end) where
     -- The line is at its last lamp, and the plan ends there with the goal true: nothing is new.
     pub tries_succeeding :
         NotFailed r → NotArrived r →
-        TriesEnd t E member kind end words tried_as.Nothing memory'
+        TriesEnd t E member kind end words (Ok None) memory'
     tries_succeeding h k = record { so = go trying.goes.going; remembers = looked.memory }
       where
         go : GoingOn → trial ≡ quiet
         go (going_at_lamp after f) = f ∙ ap (at_lamp t E) (fate_found looked trying.goes.range ∙ succeeds_then t.worlds r h k)
         go (going_at_end is f) = absurd (lamp is)
 
-    -- It goes from a lamp to its end.
-    pub passes_lamp : t.ends < column
-    passes_lamp = go trying.goes.going
-      where
-        go : GoingOn → t.ends < column
-        go (going_at_lamp after f) = after
-        go (going_at_end is f) = absurd (lamp is)
-
     -- The walk there arrives with a pair: the line goes on with that pair, at its end.
     pub tries_on :
-        {state' : ProgramState} {world' : WorldState} → r ≡ Arrives state' world' →
-        Trying s j memory' list words n member kind end state' world' end
-    tries_on {state'} {world'} e =
+        {next : Pair} → r ≡ Arrives next → Trying s j memory' list words n member kind end next end
+    tries_on {next} e =
         record {
           ready = record { opened = trying.ready.opened; remembers = looked.memory };
           listed = trying.listed;
@@ -278,7 +267,7 @@ module _
           };
         }
       where
-        go : GoingOn → Going t E member kind end (pair_number t.worlds (pair state' world')) end
+        go : GoingOn → Going t E member kind end (pair_number t.worlds next) end
         go (going_at_lamp after f) =
             going_at_end refl
             (f ∙ ap (at_lamp t E) (fate_found looked trying.goes.range ∙ ap (λ (g : Fate). fate_of t.worlds (walk_to g)) e))

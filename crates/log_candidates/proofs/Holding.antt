@@ -1,13 +1,9 @@
 -- The words hold the candidates: before the first entry, and after one more. A loop goes through the columns.
-use mathlib.Core.Path.{◌≡◌, refl, sym, ◌∙◌}
-use mathlib.Core.Logic.{◌≢◌, ◌↔◌}
-use mathlib.Core.Bool.{Bool, true, false, false≢true}
-use mathlib.Core.List.{List}
-use Prim.Native.Nat.{ℕ, ◌+◌, ◌^◌, ◌≤◌, ◌<◌}
+use Rattle.std.proofs.Common.{◌≡◌, refl, sym, ◌∙◌, ◌≢◌, ◌↔◌, Bool, true, false, List, ℕ, ◌+◌, ◌≤◌, ◌<◌, arith, length, get_or, set, take, replicate, MatchBool, HoldsAt, get_or-set_same, get_or-set_other, get_or-take, length-take-le}
+use mathlib.Core.Bool.{false≢true}
 use native.Mathlib.Decide.{ℕ_discrete}
-use native.Mathlib.Omega.{arith}
-use lib.ListN.{length, get_or, set}
-use lib.Seq.{get_or-set_same, get_or-set_other}
+use Rattle.std.proofs.lemmas.List.{get_or-replicate}
+use Rattle.std.specs.List.{AllWithin}
 use Rattle.plans.specs.Execution.{Label, action_of, result_of}
 use Rattle.lamp_line.specs.declared.WorldState.{WorldState}
 use Rattle.lamp_line.specs.Tables.{Tables, world_state, moves_on, column_count}
@@ -19,7 +15,7 @@ use Rattle.job_tables.proofs.Ranges.{columns_few, worlds_are, kinds_are, ends_ar
 use Rattle.word_bits.proofs.LowestBit.{some_bit}
 use Rattle.word_bits.proofs.WordBits.{none_in_zero}
 use Rattle.log_laws.specs.inner.Candidates.{Candidates, FirstCandidates, NextCandidates}
-use Rattle.log_candidates.specs.inner.WorldSets.{Has, InWorlds, Holds, WorldsIn, Filled, Adds, Gathered, StartAt, LedFrom, LedAt, Stayed, HoldJust, NoneLeft}
+use Rattle.log_candidates.specs.inner.WorldSets.{Has, Holds, WorldsIn, Adds, Gathered, StartAt, LedFrom, LedAt, Stayed, HoldJust, NoneLeft}
 use Rattle.log_candidates.proofs.WorldSets.{added_to_none}
 
 -- ---- columns one by one
@@ -28,10 +24,6 @@ use Rattle.log_candidates.proofs.WorldSets.{added_to_none}
 pub record Staying (t : Tables) (l : Label) (before after : List ℕ) (n : ℕ) : Type 0 where
   pub stayed : Stayed t l before after n
   pub others : (c : ℕ) → n ≤ c → get_or after c 0 ≡ get_or before c 0
-
--- The loop begins.
-pub staying_none : {t : Tables} {l : Label} {sets : List ℕ} → Staying t l sets sets 0
-staying_none = record { stayed = record { led = λ c c<. absurd (omega arith) }; others = λ c n≤. refl }
 
 -- One column more.
 pub staying_more :
@@ -47,79 +39,34 @@ staying_more {t} {l} {before} {after} {n} {word} those room this =
     led c c< (yes e) = rw (e, get_or-set_same after n word 0 room) (rw (those.others n (omega arith)) at this)
     led c c< (no d) = rw (get_or-set_other after n c word 0 d) (those.stayed.led c (omega arith))
 
--- All columns, whose number the loop calls k.
-pub staying_all :
-    {t : Tables} {l : Label} {before after : List ℕ} {m k n : ℕ} → m ≤ k → k ≤ m → k ≡ n → Staying t l before after m →
-    Stayed t l before after n
-staying_all {m = m} {n = n} m≤ ≤m is those = let same : m ≡ n = omega arith in rw same at those.stayed
-
--- Where the candidates are in world states of the job, so are those of each column.
-pub worlds_at : {j : Job} {sets : List ℕ} {c k : ℕ} → WorldsIn j sets → c < k → k ≡ job_columns j → InWorlds (get_or sets c 0) j.worlds
-worlds_at {c = c} within c< is = record { below = λ w has. within.below w c (record { is_column = omega arith; has = has }) }
-
--- This is so of a column that the loop has still before it.
-pub staying_worlds :
-    {t : Tables} {l : Label} {j : Job} {before after : List ℕ} {c k : ℕ} → Staying t l before after c → WorldsIn j before →
-    c < k → k ≡ job_columns j → InWorlds (get_or after c 0) j.worlds
-staying_worlds {c = c} those within c< is = rw (those.others c (omega arith)) (worlds_at within c< is)
-
--- ---- the same word at each column
-
--- The loop begins.
-pub filled_none : {sets : List ℕ} {word : ℕ} → Filled sets word 0
-filled_none = record { same = λ c c<. absurd (omega arith) }
-
--- One column more.
-pub filled_more : {sets : List ℕ} {word n : ℕ} → Filled sets word n → n < length sets → Filled (set sets n word) word (n + 1)
-filled_more {sets} {word} {n} those room = record { same = λ c c<. by c c< (ℕ_discrete c n) }
-  where
-    by : (c : ℕ) → c < n + 1 → Dec (c ≡ n) → get_or (set sets n word) c 0 ≡ word
-    by c c< (yes e) = rw e (get_or-set_same sets n word 0 room)
-    by c c< (no d) = rw (get_or-set_other sets n c word 0 d) (those.same c (omega arith))
-
--- All columns.
-pub filled_all : {sets : List ℕ} {word m n : ℕ} → m ≤ n → n ≤ m → Filled sets word m → Filled sets word n
-filled_all {m = m} {n = n} m≤ ≤m those = let same : m ≡ n = omega arith in rw same at those
-
 -- ---- no candidate
 
--- The words of the first n columns are empty.
-pub record EmptyBelow (sets : List ℕ) (n : ℕ) : Type 0 where
-  pub empty : (c : ℕ) → c < n → get_or sets c 0 ≡ 0
-
--- The loop begins.
-pub empty_below_start : {sets : List ℕ} → EmptyBelow sets 0
-empty_below_start = record { empty = λ c c<. absurd (omega arith) }
-
-module _ {sets : List ℕ} {n : ℕ} (before : EmptyBelow sets n) where
-  -- One column more.
-  pub empty_below_more : get_or sets n 0 ≡ 0 → EmptyBelow sets (n + 1)
-  empty_below_more is_empty = record { empty = λ c c<. by c c< (ℕ_discrete c n) }
-    where
-      by : (c : ℕ) → c < n + 1 → Dec (c ≡ n) → get_or sets c 0 ≡ 0
-      by c c< (yes e) = rw e is_empty
-      by c c< (no d) = before.empty c (omega arith)
-
-  -- All columns: there is no candidate.
-  pub no_candidate : {j : Job} {k : ℕ} → k ≤ n → k ≡ job_columns j → NoneLeft j sets true
-  no_candidate all is w c held =
-      false≢true (sym (none_in_zero w.0) ∙ (rw (before.empty c (omega (arith, held.is_column))) at held.has))
+-- Where the words of all columns are empty there is none.
+no_candidate : {j : Job} {sets : List ℕ} → ((c : ℕ) → c < job_columns j → get_or sets c 0 ≡ 0) → NoneLeft j sets true
+no_candidate empty w c held = false≢true (sym (none_in_zero w.0) ∙ (rw (empty c held.is_column) at held.has))
 
 -- A word that is not 0 holds one.
-pub some_candidate_left :
-    {j : Job} {k : ℕ} (sets : List ℕ) {c : ℕ} → c < k → k ≡ job_columns j → get_or sets c 0 < 2 ^ 64 → get_or sets c 0 ≢ 0 →
-    NoneLeft j sets false
-some_candidate_left sets {c} c< is fits other =
-    let (w, has) = some_bit fits other in
-    (world_state w, c, record { is_column = omega arith; has = has })
+some_candidate_left : {j : Job} {sets : List ℕ} {c : ℕ} → c < job_columns j → get_or sets c 0 ≢ 0 → NoneLeft j sets false
+some_candidate_left {c = c} c< other =
+    let (w, has) = some_bit other in
+    (world_state w, c, record { is_column = c<; has = has })
+
+-- The test of the words up to the number of columns says whether there is no candidate.
+pub none_left_by :
+    (j : Job) {k : ℕ} (sets : List ℕ) (r : Bool) → k ≡ job_columns j → k ≤ length sets →
+    MatchBool r (AllWithin (λ set. set ≡ 0) (take k sets) 0 (length (take k sets)))
+    ((c : ℕ) × (c < length (take k sets)) × HoldsAt (λ set. set ≢ 0) (take k sets) c) →
+    NoneLeft j sets r
+none_left_by j {k} sets true is room all =
+    no_candidate (λ c c<.
+    sym (get_or-take k sets c 0 (omega arith)) ∙ all c 0 (omega arith) (omega (arith, length-take-le k sets room)))
+none_left_by j {k} sets false is room (c, c<, other) =
+    let below : c < k = omega (arith, length-take-le k sets room) in
+    some_candidate_left (omega arith) (λ e. other 0 (get_or-take k sets c 0 below ∙ e))
 
 -- ---- a file that is not refused
 
 module _ (s : List ℕ) {j : Job} (opened : Opened s j) where
-  -- There are at most sixteen columns, whose number the code has counted.
-  pub column_count_few : {k : ℕ} → k ≡ job_columns j → k ≤ 16
-  column_count_few is = omega (arith, columns_few s j opened)
-
   -- A column of the tables is one of the job's.
   job_column : {c : ℕ} → c < column_count (tables_of s) → c < job_columns j
   job_column c< = rw (kinds_are s j opened, ends_are s j opened) c<
@@ -130,10 +77,10 @@ module _ (s : List ℕ) {j : Job} (opened : Opened s j) where
 
   -- The same set at every column.
   everywhere :
-      {Held : Candidates} {sets : List ℕ} {word n : ℕ} →
-      ((w : WorldState) (c : ℕ) → Held w c ↔ (Has word w × (c < column_count (tables_of s)))) → Filled sets word n → 16 ≤ n →
+      {Held : Candidates} {sets : List ℕ} (word : ℕ) →
+      ((w : WorldState) (c : ℕ) → Held w c ↔ (Has word w × (c < column_count (tables_of s)))) → sets ≡ replicate 16 word →
       HoldJust j Held sets
-  everywhere {Held} {sets} {word} {n} is filled enough =
+  everywhere {Held} {sets} word is filled =
       record {
         holds = λ w c. (
           λ held. (is w c).1 (rw (same held.is_column) at held.has, table_column held.is_column),
@@ -144,14 +91,14 @@ module _ (s : List ℕ) {j : Job} (opened : Opened s j) where
       }
     where
       same : {c : ℕ} → c < job_columns j → get_or sets c 0 ≡ word
-      same {c} c< = filled.same c (omega (arith, columns_few s j opened))
+      same {c} c< = rw filled (get_or-replicate 16 c word 0 (omega (arith, columns_few s j opened)))
 
   -- Before the first entry.
   pub first_held :
-      {sets : List ℕ} {word n : ℕ} → Adds (Gathered (StartAt (tables_of s)) (tables_of s).worlds) 0 word → Filled sets word n → 16 ≤ n →
+      {sets : List ℕ} {word : ℕ} → Adds (Gathered (StartAt (tables_of s)) (tables_of s).worlds) 0 word → sets ≡ replicate 16 word →
       HoldJust j (FirstCandidates (tables_of s)) sets
   first_held added =
-      everywhere (λ w c. (
+      everywhere _ (λ w c. (
         λ (marked, c<). (
           (added_to_none added w).1 (w.0, (well_formed s j opened).formed.start_range w marked, (refl, marked)),
           c<,
@@ -182,10 +129,10 @@ module _ (s : List ℕ) {j : Job} (opened : Opened s j) where
   module _ (l : Label) {before : List ℕ} {b : Bool} (read : b ≡ moves_on (tables_of s) (action_of l)) where
     -- It moves on.
     pub passed_held :
-        {after : List ℕ} {word n : ℕ} → b ≡ true → Adds (Gathered (LedAt (tables_of s) l before) (job_columns j)) 0 word →
-        Filled after word n → 16 ≤ n → HoldJust j (NextCandidates (tables_of s) (Holds j before) l) after
+        {after : List ℕ} {word : ℕ} → b ≡ true → Adds (Gathered (LedAt (tables_of s) l before) (job_columns j)) 0 word →
+        after ≡ replicate 16 word → HoldJust j (NextCandidates (tables_of s) (Holds j before) l) after
     passed_held moving added =
-        everywhere (λ w c. (
+        everywhere _ (λ w c. (
           λ n. (
             (added_to_none added w).1 (
               n.at,

@@ -1,14 +1,9 @@
 -- From one world state: it is added if it is a start, and the world state to which an entry leads from it if the cell has its result.
 -- From all of a set: the scan of its bits gathers them.
-use mathlib.Core.Path.{◌≡◌, refl, sym, ◌∙◌}
-use mathlib.Core.Logic.{◌≢◌}
-use mathlib.Core.Bool.{Bool, true, false, false≢true}
-use mathlib.Core.List.{List, [], ◌∷◌}
-use Prim.Native.Nat.{ℕ, ◌+◌, ◌*◌, ◌≤◌, ◌<◌}
+use Rattle.std.proofs.Common.{◌≡◌, refl, sym, ◌∙◌, ◌≢◌, Bool, true, false, List, [], ◌∷◌, ℕ, ◌+◌, ◌*◌, ◌≤◌, ◌<◌, arith, eqb-true, ne_eqb, eqb}
+use mathlib.Core.Bool.{false≢true}
 use native.Mathlib.Decide.{dec_lt}
-use native.Mathlib.Omega.{arith}
-use borrow.Author.Tests.{eqb-true, eqb-false, ne_eqb}
-use lib.Dec.{eqb}
+use borrow.Author.Tests.{eqb-false}
 use Rattle.plans.specs.Execution.{Label}
 use Rattle.lamp_line.specs.declared.WorldState.{WorldState}
 use Rattle.lamp_line.specs.Lists.{◌∈◌}
@@ -21,10 +16,10 @@ use Rattle.job_tables.specs.declared.CellBytes.{CellBytes}
 use Rattle.job_tables.specs.inner.Entries.{BytesOf}
 use Rattle.job_tables.proofs.Ranges.{first_in, laid_out, worlds_are}
 use Rattle.word_bits.specs.inner.WordBits.{AddedIf, Lowest, WithoutLowest}
-use Rattle.word_bits.proofs.BitScan.{Scanning, scan_start, scan_end, scan_ahead, scan_set, scan_between, scan_more}
+use Rattle.word_bits.proofs.BitScan.{Scanning, scan_end, scan_ahead, scan_set, scan_between, scan_more}
 use Rattle.log_candidates.specs.declared.LogEntry.{LogEntry}
 use Rattle.log_candidates.specs.inner.WorldSets.{label_of, EntryInJob, Has, InWorlds, Adds, Gathered, StartAt, Led, LedFrom}
-use Rattle.log_candidates.proofs.WorldSets.{adds_if, adds_same, gathered_none, gathered_more, gathered_on, gathered_all}
+use Rattle.log_candidates.proofs.WorldSets.{adds_if, adds_same, gathered_more, gathered_on, gathered_all}
 
 -- The bit of a world state is the one of its number, which the code has as the row of a table one wide.
 bit_of : {w : WorldState} {add : Bool} {at before after : ℕ} → at ≡ w.0 * 1 → AddedIf add before after at → AddedIf add before after w.0
@@ -41,15 +36,6 @@ module _ (s : List ℕ) {j : Job} (opened : Opened s j) where
   pub next_bit_below :
       {cell : List Outcome} {bytes : CellBytes} {at : ℕ} → BytesOf cell j.worlds bytes → at ≡ bytes.next.0 * 1 → at < 64
   next_bit_below {bytes = bytes} read e = bit_below bytes.next e read.next_range
-
-  -- It is added if it is a start.
-  pub start_added :
-      (w : WorldState) {b : Bool} {at before after : ℕ} → b ≡ (tables_of s).start w → at ≡ w.0 * 1 → AddedIf b before after at →
-      Adds (StartAt (tables_of s) w.0) before after
-  start_added w read e added =
-      adds_if w (bit_of e added)
-      (λ marked v. (λ (same, start). same, λ same. (same, rw same (sym read ∙ marked))))
-      (λ unmarked v (same, start). false≢true (sym unmarked ∙ (read ∙ (rw same at start))))
 
   -- All starts are gathered.
   pub starts_gathered :
@@ -92,10 +78,6 @@ pub record Gathering (t : Tables) (l : Label) (c set before rest sum : ℕ) : Ty
   pub gathered : Adds (Gathered (λ i v. Has set (world_state i) × Led t l c i v) w) before sum
 
 module _ {t : Tables} {l : Label} {c set before : ℕ} where
-  -- The scan begins.
-  pub gathering_start : Gathering t l c set before set before
-  gathering_start = record { w = 0; scan = scan_start; gathered = gathered_none }
-
   module _ {rest sum : ℕ} (now : Gathering t l c set before rest sum) where
     -- The next world state of the set.
     module _ {at : ℕ} (low : Lowest rest at) where

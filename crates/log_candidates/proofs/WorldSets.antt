@@ -1,10 +1,7 @@
 -- Sets of world states as words: adding one world state, and gathering those that each of a row of numbers gives.
-use mathlib.Core.Path.{◌≡◌, refl, sym, ap, subst, ◌∙◌}
-use mathlib.Core.Logic.{◌⊎◌, inl, inr, ◌↔◌}
-use mathlib.Core.Bool.{Bool, true, false, false≢true}
-use Prim.Native.Nat.{ℕ, ◌+◌, ◌≤◌, ◌<◌}
+use Rattle.std.proofs.Common.{◌≡◌, refl, sym, ap, subst, ◌∙◌, ◌⊎◌, inl, inr, ◌↔◌, Bool, true, false, ℕ, ◌+◌, ◌≤◌, ◌<◌, arith}
+use mathlib.Core.Bool.{false≢true}
 use native.Mathlib.Decide.{dec_lt, ℕ_discrete}
-use native.Mathlib.Omega.{arith}
 use Rattle.lamp_line.specs.declared.WorldState.{WorldState}
 use Rattle.lamp_line.specs.Tables.{world_state}
 use Rattle.word_bits.specs.Bits.{has_bit}
@@ -73,10 +70,6 @@ added_to_none {Added} {set} added v = (λ h. from ((added.adds v).0 h), λ a. (a
 -- ---- gathering
 
 module _ {Given : ℕ → WorldState → Type 0} {before : ℕ} where
-  -- The numbers below 0 give nothing.
-  pub gathered_none : Adds (Gathered Given 0) before before
-  gathered_none = adds_none (λ v. refl) (λ v (i, i<, given). omega arith)
-
   -- One number more.
   pub gathered_more :
       {n set after : ℕ} → Adds (Gathered Given n) before set → Adds (Given n) set after → Adds (Gathered Given (n + 1)) before after

@@ -1,11 +1,7 @@
 -- The entries of a log: how many the first n are, and that the first k of them are their beginning.
-use mathlib.Core.Path.{◌≡◌, refl, sym, ap, ◌∙◌}
-use mathlib.Core.List.{List, [], ◌∷◌, ◌++◌, append_assoc, append-nil}
-use Prim.Native.Nat.{ℕ, zero, suc, ◌≤◌}
+use Rattle.std.proofs.Common.{◌≡◌, refl, sym, ap, ◌∙◌, List, [], ◌∷◌, ◌++◌, append_assoc, append-nil, ℕ, zero, suc, ◌≤◌, arith, length, take, length-append, take_all}
 use native.Mathlib.Decide.{ℕ_discrete}
-use native.Mathlib.Omega.{arith}
-use lib.ListN.{length, take, length-append}
-use lib.Seq.{take-append-le, take_all}
+use lib.Seq.{take-append-le}
 use Rattle.plans.specs.Execution.{Label}
 use Rattle.log_replay.specs.Logs.{log_entry, first_entries}
 

@@ -1,14 +1,6 @@
 -- The loop of the replay: the first i entries are possible, q is the program state to which they lead, and the words hold the
 -- candidates. An entry that cannot be made is the first with which the log is impossible.
-use mathlib.Core.Path.{◌≡◌, sym, ap, subst, ◌∙◌}
-use mathlib.Core.Bool.{false, ◌||◌}
-use mathlib.Core.List.{List, []}
-use Prim.Native.Nat.{ℕ, suc, ◌+◌, ◌≤◌, ◌<◌}
-use native.Mathlib.Numerals.{add-one}
-use native.Mathlib.Omega.{arith}
-use borrow.Author.Tests.{leb-false}
-use lib.Dec.{leb}
-use lib.ListN.{length}
+use Rattle.std.proofs.Common.{◌≡◌, sym, ap, subst, ◌∙◌, Option, None, Some, Ok, Err, false, ◌||◌, List, [], ℕ, suc, ◌+◌, ◌≤◌, ◌<◌, add-one, arith, leb-false, leb}
 use Rattle.plans.specs.Execution.{Label, action_of, result_of}
 use Rattle.lamp_line.specs.declared.ProgramState.{ProgramState}
 use Rattle.lamp_line.specs.Replay.{Possible}
@@ -17,14 +9,12 @@ use Rattle.head_refusals.proofs.HeadLaws.{neither}
 use Rattle.job_layout.specs.declared.Job.{Job}
 use Rattle.job_layout.specs.JobTables.{tables_of}
 use Rattle.job_file.specs.Reading.{Opened}
-use Rattle.job_tables.specs.declared.Target.{Target}
-use Rattle.job_tables.specs.declared.Target.TheVariants.{NoBranch, To}
 use Rattle.job_tables.proofs.Ranges.{laid_out, states_are, first_is, well_formed}
 use Rattle.log_laws.specs.inner.Candidates.{FirstCandidates, Follows}
 use Rattle.log_laws.proofs.Following.{follows_possible, stuck_impossible, follows_start, follows_next}
 use Rattle.log_laws.proofs.Logs.{beginning_possible}
 use Rattle.log_candidates.specs.declared.LogEntry.{LogEntry}
-use Rattle.log_replay.specs.declared.ReplayAnswer.TheVariants as answer
+use Rattle.log_replay.specs.declared.ReplayError.TheVariants.{ImpossibleAt}
 use Rattle.log_replay.specs.Logs.{log_entry, first_entries, entry_count}
 use Rattle.log_replay.specs.ReplayAnswers.{entry_wrong, entries_wrong, ReplayedRight}
 use Rattle.log_candidates.specs.inner.WorldSets.{label_of, EntryInJob, Holds, WorldsIn, HoldJust}
@@ -38,22 +28,20 @@ pub record Replaying (s : List ℕ) (j : Job) (log : List ℕ) (i : ℕ) (q : Pr
   pub entries_right : entries_wrong j.actions j.results log ≡ false
   pub within : i ≤ entry_count log
   pub state_range : q.0 ≤ j.states
-  pub long : length sets ≡ 16
   pub worlds : WorldsIn j sets
   pub follows : Follows (tables_of s) (first_entries log i) q (Holds j sets)
 
 -- The loop begins.
 pub replaying_start :
-    {s : List ℕ} {j : Job} {log sets : List ℕ} → Opened s j → entries_wrong j.actions j.results log ≡ false → length sets ≡ 16 →
+    {s : List ℕ} {j : Job} {log sets : List ℕ} → Opened s j → entries_wrong j.actions j.results log ≡ false →
     HoldJust j (FirstCandidates (tables_of s)) sets → Replaying s j log 0 j.first sets
 unfolding first_entries
-replaying_start {s} {j} {sets = sets} opened entries_right long first =
+replaying_start {s} {j} {sets = sets} opened entries_right first =
     record {
       opened = opened;
       entries_right = entries_right;
       within = omega arith;
       state_range = (laid_out s j opened).first_range;
-      long = long;
       worlds = first_worlds s opened first;
       follows = subst (λ (q : ProgramState). Follows (tables_of s) [] q (Holds j sets)) (sym (first_is s j opened))
           (follows_start (tables_of s) (well_formed s j opened) first.holds);
@@ -61,7 +49,7 @@ replaying_start {s} {j} {sets = sets} opened entries_right long first =
 
 module _ {s : List ℕ} {j : Job} {log sets : List ℕ} {i : ℕ} {q : ProgramState} (now : Replaying s j log i q sets) where
   -- It is through: the log is possible.
-  pub replaying_end : entry_count log ≤ i → ReplayedRight (tables_of s) log answer.Possible
+  pub replaying_end : entry_count log ≤ i → ReplayedRight (tables_of s) log (Ok tt)
   unfolding ReplayedRight
   replaying_end end =
       let same : i ≡ entry_count log = omega (arith, now.within) in
@@ -78,10 +66,10 @@ module _ {s : List ℕ} {j : Job} {log sets : List ℕ} {i : ℕ} {q : ProgramSt
         record { action_range = leb-false _ _ tests.0; result_range = leb-false _ _ tests.1 }
 
     module _
-        {target : Target} {after : List ℕ} (followed : Followed (tables_of s) j q (label_of entry) target sets after)
+        {target : Option ProgramState} {after : List ℕ} (followed : Followed (tables_of s) j q (label_of entry) target sets after)
       where
         -- It cannot be made: this is the first entry with which the log is impossible.
-        pub replaying_stuck : target ≡ NoBranch → ReplayedRight (tables_of s) log (answer.ImpossibleAt i)
+        pub replaying_stuck : target ≡ None → ReplayedRight (tables_of s) log (Err (ImpossibleAt i))
         unfolding ReplayedRight first_entries
         replaying_stuck is =
             let stuck = stuck_impossible (tables_of s) now.follows (followed.stuck is) in
@@ -96,9 +84,9 @@ module _ {s : List ℕ} {j : Job} {log sets : List ℕ} {i : ℕ} {q : ProgramSt
             }
 
         -- The loop goes on in the program state to which it leads.
-        pub replaying_more : {to : ProgramState} → target ≡ To to → length after ≡ 16 → Replaying s j log (i + 1) to after
+        pub replaying_more : {to : ProgramState} → target ≡ Some to → Replaying s j log (i + 1) to after
         unfolding first_entries
-        replaying_more {to} is long =
+        replaying_more {to} is =
             let on = followed.goes_on to is in
             let wf = well_formed s j now.opened in
             record {
@@ -106,7 +94,6 @@ module _ {s : List ℕ} {j : Job} {log sets : List ℕ} {i : ℕ} {q : ProgramSt
               entries_right = now.entries_right;
               within = omega arith;
               state_range = rw (states_are s j now.opened) (wf.formed.target_range q to entry.result on.branch).1;
-              long = long;
               worlds = next_worlds s now.opened (record { holds = on.next });
               follows = rw (add-one i, ← read) (follows_next (tables_of s) wf now.follows on);
             }

@@ -7,24 +7,29 @@
 
 ghost use Rattle.std.specs.Prelude.{◌≡◌, false, ◌≤◌, ◌<◌, length};
 ghost use Rattle.job_layout.specs.JobTables.{tables_of};
-ghost use Rattle.job_file.specs.Reading.{Opened};
 ghost use Rattle.log_replay.specs.Logs.{log_entry, entry_count};
 ghost use Rattle.log_replay.specs.ReplayAnswers.{log_size_wrong, entries_wrong, ReplayedRight, Replayed};
 ghost use Rattle.log_candidates.specs.inner.WorldSets.{label_of, EntryInJob, WorldsIn};
 ghost use Rattle.log_replay.specs.inner.Acting.{acts_so, Followed};
+ghost use Rattle.log_replay.specs.declared.ReplayError.TheVariants.{Refused};
 
-use job_file::{Reading, read_job, refusal_number};
-use job_layout::Job;
-use job_tables::{Target, plan_action, plan_target};
-use lamp_line::ProgramState;
-use log_candidates::{LogEntry, advance, first_candidates, none_left};
+use job_tables::{OpenJob, open_job};
+use lamp_line::{ProgramState, Refusal};
+use log_candidates::{Candidates, LogEntry};
 
-// What a replay answers: the log is possible, or the place of the first entry with which it is not, or a refusal.
+// Why a replay does not answer that the log is possible: the place of the first entry with which it is not, or a refusal.
 #[derive(Clone, Copy)]
-pub enum ReplayAnswer {
-    Possible,
+pub enum ReplayError {
     ImpossibleAt(u16),
-    Refused(u8),
+    Refused(Refusal),
+}
+
+impl From<Refusal> for ReplayError {
+    ghost from_gives = { λ because error. error ≡ Refused because };
+
+    fn from(because: Refusal) -> ReplayError {
+        ReplayError::Refused(because)
+    }
 }
 
 fn read_entry(log: &[u8], i: usize) -> LogEntry
@@ -48,84 +53,74 @@ fn entries_wrong(log: &[u8], actions: u8, results: u8) -> bool
     ensures { result ≡ entries_wrong actions results log.now }
 {
     let entries = log.len() / 2;
-    let mut i = 0;
-    while i < entries {
+    for i in 0..entries {
         let entry = read_entry(log, i);
         if (actions <= entry.action) | (results <= entry.result) {
             return true;
         }
-        i += 1;
     }
     false
 }
 
 // The plan has not ended in this program state, and its action there is this one.
-fn acts(file: &[u8], job: Job, state: ProgramState, action: u8) -> bool
-    requires { Opened file.now job × (state.0 ≤ job.states) }
-    ensures { result ≡ acts_so (tables_of file.now) state action }
+fn acts(job: &OpenJob, state: ProgramState, action: u8) -> bool
+    requires { state.0 ≤ job.now.head.states }
+    ensures { result ≡ acts_so (tables_of job.now.file.now) state action }
 {
-    if state.0 == job.states {
+    if state.0 == job.head.states {
         return false;
     }
-    action == plan_action(file, job, state)
+    action == job.action(state)
 }
 
 // Follows one entry from the program state and the candidates: none if it cannot be made, or the program state to which it leads. The
 // candidates become those after it.
 fn follow_entry(
-    file: &[u8],
-    job: Job,
+    job: &OpenJob,
     state: ProgramState,
     entry: LogEntry,
-    sets: &mut [u64],
-) -> Target
-    requires { Opened file.now job × (state.0 ≤ job.states) × EntryInJob job entry × WorldsIn job sets.old × (16 ≤ length sets.old) }
-    ensures { Followed (tables_of file.now) job state (label_of entry) result sets.old sets.new }
+    candidates: &mut Candidates,
+) -> Option<ProgramState>
+    requires { (state.0 ≤ job.now.head.states) × EntryInJob job.now.head entry × WorldsIn job.now.head candidates.old.sets }
+    ensures { Followed (tables_of job.now.file.now) job.now.head state (label_of entry) result candidates.old.sets candidates.new.sets }
 {
-    if !acts(file, job, state, entry.action) {
-        return Target::NoBranch;
+    if !acts(job, state, entry.action) {
+        return None;
     }
-    advance(file, job, entry, sets);
-    if none_left(sets, job) {
-        return Target::NoBranch;
+    candidates.advance(job, entry);
+    if candidates.none_left(job) {
+        return None;
     }
-    plan_target(file, job, state, entry.result)
+    job.target(state, entry.result)
 }
 
 // The replay in a file that is not refused, of a log that is not too long and has no wrong entry.
-fn replay_in_job(file: &[u8], job: Job, log: &[u8]) -> ReplayAnswer
-    requires { Opened file.now job × (length log.now ≤ 65534) × (entries_wrong job.actions job.results log.now ≡ false) }
-    ensures { ReplayedRight (tables_of file.now) log.now result }
+fn replay_in_job(job: &OpenJob, log: &[u8]) -> Result<(), ReplayError>
+    requires { (length log.now ≤ 65534) × (entries_wrong job.now.head.actions job.now.head.results log.now ≡ false) }
+    ensures { ReplayedRight (tables_of job.now.file.now) log.now result }
 {
     let count = log.len() / 2;
-    let mut q = job.first;
-    let mut sets = [0u64; 16];
-    first_candidates(file, job, &mut sets);
-    let mut i = 0;
-    while i < count {
-        let target = follow_entry(file, job, q, read_entry(log, i), &mut sets);
-        let Target::To(to) = target else {
-            return ReplayAnswer::ImpossibleAt(i as u16);
+    let mut state = job.head.first;
+    let mut candidates = Candidates::first(job);
+    for i in 0..count {
+        let Some(to) = follow_entry(job, state, read_entry(log, i), &mut candidates) else {
+            return Err(ReplayError::ImpossibleAt(i as u16));
         };
-        q = to;
-        i += 1;
+        state = to;
     }
-    ReplayAnswer::Possible
+    Ok(())
 }
 
 // The replay of a log, for any file and any log.
-pub fn replay_log(file: &[u8], log: &[u8]) -> ReplayAnswer
+pub fn replay_log(file: &[u8], log: &[u8]) -> Result<(), ReplayError>
     ensures { Replayed file.now log.now result }
 {
-    let reading = read_job(file);
-    let Reading::Job(job) = reading else {
-        return ReplayAnswer::Refused(refusal_number(reading));
-    };
+    let job = open_job(file)?;
     if log_size_wrong(log) {
-        return ReplayAnswer::Refused(20);
+        return Err(ReplayError::Refused(Refusal::LogSize));
     }
-    if entries_wrong(log, job.actions, job.results) {
-        return ReplayAnswer::Refused(21);
+    if entries_wrong(log, job.head.actions, job.head.results) {
+        return Err(ReplayError::Refused(Refusal::LogEntry));
     }
-    replay_in_job(file, job, log)
+    replay_in_job(&job, log)
 }

@@ -5,6 +5,7 @@
 
 ghost use Rattle.std.specs.Prelude.{◌≡◌, length};
 ghost use Rattle.lamp_line.specs.Tables.{program_state, world_state, line_of};
+ghost use Rattle.lamp_line.specs.Run.{pair};
 ghost use Rattle.job_file.specs.Reading.{reading_of};
 ghost use Rattle.lamp_walk.specs.WalkAnswers.{walk_answer};
 ghost use Rattle.line_run.specs.RunAnswers.{run_answer};
@@ -19,9 +20,9 @@ use answer_words::{
 };
 use cabinet::{begin, next_action, report};
 use cell_filling::fill_cells;
-use job_file::{Reading, read_job};
+use job_file::read_job;
 use job_layout::{Job, Sizes};
-use lamp_line::{Cabinet, ProgramState, WorldState};
+use lamp_line::{Cabinet, Pair, ProgramState, WorldState};
 use lamp_walk::walk_lamp;
 use line_run::run_line;
 use log_replay::replay_log;
@@ -41,11 +42,6 @@ pub extern "C" fn nessflurry_version() -> u32
 fn head_numbers(job: Job) -> [u16; 17]
     ensures { result ≡ head_numbers job }
 {
-    let marks = job.marks;
-    let cells = job.cells;
-    let starts = job.starts;
-    let goal = job.goal;
-    let plan = job.plan;
     [
         job.actions as u16,
         job.worlds as u16,
@@ -54,16 +50,16 @@ fn head_numbers(job: Job) -> [u16; 17]
         job.states as u16,
         job.first.0 as u16,
         job.ends as u16,
-        marks.offset,
-        marks.length,
-        cells.offset,
-        cells.length,
-        starts.offset,
-        starts.length,
-        goal.offset,
-        goal.length,
-        plan.offset,
-        plan.length,
+        job.marks.offset,
+        job.marks.length,
+        job.cells.offset,
+        job.cells.length,
+        job.starts.offset,
+        job.starts.length,
+        job.goal.offset,
+        job.goal.length,
+        job.plan.offset,
+        job.plan.length,
     ]
 }
 
@@ -73,18 +69,21 @@ pub extern "C" fn nessflurry_raw_read(file: &[u8], head: &mut [u16; 17]) -> u64
     ensures written { head.new ≡ head_after (reading_of file.now) head.old }
 {
     let reading = read_job(file);
-    let Reading::Job(job) = reading else {
-        return read_word(reading);
-    };
-    *head = head_numbers(job);
+    if let Ok(job) = reading {
+        *head = head_numbers(job);
+    }
     read_word(reading)
 }
 
 #[unsafe(no_mangle)]
 pub extern "C" fn nessflurry_raw_walk(file: &[u8], state: u8, world: u8, column: u8) -> u64
-    ensures { result ≡ walk_word (walk_answer file.now (program_state state) (world_state world) column) }
+    ensures { result ≡ walk_word (walk_answer file.now (pair (program_state state) (world_state world)) column) }
 {
-    walk_word(walk_lamp(file, ProgramState(state), WorldState(world), column))
+    let pair = Pair {
+        state: ProgramState(state),
+        world: WorldState(world),
+    };
+    walk_word(walk_lamp(file, pair, column))
 }
 
 #[unsafe(no_mangle)]
@@ -140,27 +139,22 @@ pub extern "C" fn nessflurry_raw_begin(file: &[u8], lamps: u16) -> u64
 pub extern "C" fn nessflurry_raw_action(file: &[u8], state: u8, lamps: u16) -> u64
     ensures { result ≡ action_word (action_answer file.now (record { state = program_state state; lamps = lamps })) }
 {
-    action_word(next_action(
-        file,
-        Cabinet {
-            state: ProgramState(state),
-            lamps: lamps,
-        },
-    ))
+    let cabinet = Cabinet {
+        state: ProgramState(state),
+        lamps,
+    };
+    action_word(next_action(file, cabinet))
 }
 
 #[unsafe(no_mangle)]
 pub extern "C" fn nessflurry_raw_report(file: &[u8], state: u8, lamps: u16, sensed: u8) -> u64
     ensures { result ≡ report_word (report_answer file.now (record { state = program_state state; lamps = lamps }) sensed) }
 {
-    report_word(report(
-        file,
-        Cabinet {
-            state: ProgramState(state),
-            lamps: lamps,
-        },
-        sensed,
-    ))
+    let cabinet = Cabinet {
+        state: ProgramState(state),
+        lamps,
+    };
+    report_word(report(file, cabinet, sensed))
 }
 
 #[unsafe(no_mangle)]
@@ -188,11 +182,11 @@ pub extern "C" fn nessflurry_raw_fill_cells(
         part.old }
 {
     let sizes = Sizes {
-        actions: actions,
-        worlds: worlds,
-        kinds: kinds,
-        results: results,
-        end_kinds: end_kinds as u16,
+        actions,
+        worlds,
+        kinds,
+        results,
+        end_kinds: u16::from(end_kinds),
     };
     fill_word(fill_cells(rules, sizes, part))
 }

@@ -1,8 +1,7 @@
 // The cabinet's calls. Each goes on from the state that the call before has left, or from one that its row gives.
-use cabinet::{ActionAnswer, BeginAnswer, ReportAnswer};
 use lamp_line::{Cabinet, ProgramState};
-use row_cases::printing::{print_number, print_refused, print_text};
-use row_cases::reading::{read_byte, read_two};
+use row_cases::printing::print_refused;
+use row_cases::reading::{read_byte, read_u16};
 use std::io;
 use std::io::Read;
 
@@ -10,37 +9,36 @@ use std::io::Read;
 pub fn state_of(state: u8, lamps: u16) -> Cabinet {
     Cabinet {
         state: ProgramState(state),
-        lamps: lamps,
+        lamps,
     }
 }
 
 // The program state and the lamps left.
 fn print_state(rt: &impl Print, cabinet: Cabinet) -> io::Result<()> {
-    print_number(rt, u64::from(cabinet.state.0))?;
-    print_number(rt, u64::from(cabinet.lamps))
+    print!(rt; " {} {}", cabinet.state.0, cabinet.lamps)
 }
 
 // The state that a call is handed, which is printed: that of the call before, unless the row gives one.
 fn handed(rt: &impl Print, rows: &mut impl Read, before: Cabinet) -> io::Result<Cabinet> {
-    let mut cabinet = before;
-    if read_byte(rows)? == 1 {
-        cabinet = state_of(read_byte(rows)?, read_two(rows)?);
-    }
-    print_text(rt, b" at")?;
+    let cabinet = match read_byte(rows)? {
+        1 => state_of(read_byte(rows)?, read_u16(rows)?),
+        _ => before,
+    };
+    print!(rt; " at")?;
     print_state(rt, cabinet)?;
-    print_text(rt, b":")?;
+    print!(rt; ":")?;
     Ok(cabinet)
 }
 
 // Begins with a count of lamps, which is read. After a refusal the state is 0 with no lamps.
 pub fn begin(rt: &impl Print, rows: &mut impl Read, file: &[u8]) -> io::Result<Cabinet> {
-    match cabinet::begin(file, read_two(rows)?) {
-        BeginAnswer::Begun(cabinet) => {
+    match cabinet::begin(file, read_u16(rows)?) {
+        Ok(cabinet) => {
             print_state(rt, cabinet)?;
             Ok(cabinet)
         }
-        BeginAnswer::Refused(number) => {
-            print_refused(rt, number)?;
+        Err(refusal) => {
+            print_refused(rt, refusal)?;
             Ok(state_of(0, 0))
         }
     }
@@ -55,9 +53,9 @@ pub fn ask(
 ) -> io::Result<Cabinet> {
     let cabinet = handed(rt, rows, before)?;
     match cabinet::next_action(file, cabinet) {
-        ActionAnswer::Action(action) => print_number(rt, u64::from(action))?,
-        ActionAnswer::Ended => print_text(rt, b" ended")?,
-        ActionAnswer::Refused(number) => print_refused(rt, number)?,
+        Ok(Some(action)) => print!(rt; " {action}")?,
+        Ok(None) => print!(rt; " ended")?,
+        Err(refusal) => print_refused(rt, refusal)?,
     }
     Ok(cabinet)
 }
@@ -71,15 +69,15 @@ pub fn report(
 ) -> io::Result<Cabinet> {
     let cabinet = handed(rt, rows, before)?;
     match cabinet::report(file, cabinet, read_byte(rows)?) {
-        ReportAnswer::Taken(next) => {
+        Ok(next) => {
             print_state(rt, next)?;
             Ok(next)
         }
-        ReportAnswer::Refused(number, kept) => {
-            print_refused(rt, number)?;
-            print_text(rt, b", state")?;
-            print_state(rt, kept)?;
-            Ok(kept)
+        Err(error) => {
+            print_refused(rt, error.refusal)?;
+            print!(rt; ", state")?;
+            print_state(rt, error.state)?;
+            Ok(error.state)
         }
     }
 }

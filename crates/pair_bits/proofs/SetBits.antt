@@ -1,12 +1,8 @@
 -- Bits of a list of words: setting one changes no other, and writing words as 0 clears their bits.
-use mathlib.Core.Path.{◌≡◌}
-use mathlib.Core.Logic.{◌≢◌}
-use mathlib.Core.List.{List}
-use Prim.Native.Nat.{ℕ, ◌+◌, ◌*◌, ◌/◌, ◌%◌, ◌<◌, ◌≤◌}
+use Rattle.std.proofs.Common.{◌≡◌, ◌≢◌, ◌∙◌, List, ◌++◌, ℕ, ◌+◌, ◌*◌, ◌/◌, ◌%◌, ◌<◌, ◌≤◌, length, get_or, set, take, drop, arith, length-take, get_or-set_same, get_or-set_other}
+use Rattle.std.proofs.lemmas.List.{get_or_append_left, get_or-replicate, length-replicate, length-set}
+use lib.ListN.{replicate}
 use native.Mathlib.Decide.{ℕ_discrete}
-use native.Mathlib.Omega.{arith}
-use lib.ListN.{length, get_or, set, length-set}
-use lib.Seq.{get_or-set_same, get_or-set_other}
 use Rattle.word_bits.specs.inner.WordBits.{OnlyAdded}
 use Rattle.word_bits.proofs.WordBits.{none_in_zero}
 use Rattle.pair_bits.specs.Sum.{bit_at}
@@ -31,20 +27,21 @@ module _ (ws : List ℕ) (i : ℕ) {word : ℕ} (room : i < length ws * 64) (wit
 
 -- ---- words written as 0
 
--- The first n words are 0.
-pub record Zeros (ws : List ℕ) (n : ℕ) : Type 0 where
-  pub zero_at : (i : ℕ) → i < n → get_or ws i 0 ≡ 0
+-- The number of the words that hold the first n bits.
+abbrev pub held_by : ℕ → ℕ
+held_by n = n / 64 + (n % 64 + 63) / 64
 
-module _ {ws : List ℕ} {n : ℕ} (zeros : Zeros ws n) where
-  -- Word n is written as 0 too.
-  pub zeros_more : n < length ws → Zeros (set ws n 0) (n + 1)
-  zeros_more l = record { zero_at = λ i h. go i h (ℕ_discrete i n) }
-    where
-      go : (i : ℕ) → i < n + 1 → Dec (i ≡ n) → get_or (set ws n 0) i 0 ≡ 0
-      go i h (yes e) = rw e (get_or-set_same ws n 0 0 l)
-      go i h (no d) = rw (get_or-set_other ws n i 0 0 d) (zeros.zero_at i (omega arith))
+-- If these words are written as 0, none of the first n bits is set.
+pub zeros_cleared :
+    (ws : List ℕ) (n : ℕ) → n ≤ length ws * 64 → Cleared (replicate (length (take (held_by n) ws)) 0 ++ drop (held_by n) ws) n
+unfolding Cleared bit_at
+zeros_cleared ws n room i l = rw zero_at (none_in_zero (i % 64))
+  where
+    count : ℕ
+    count = length (take (held_by n) ws)
 
-  -- Words that are 0 have no bit set.
-  pub zeros_cleared : (m : ℕ) → m / 64 + (m % 64 + 63) / 64 ≤ n → Cleared ws m
-  unfolding Cleared bit_at
-  zeros_cleared m h i l = rw (zeros.zero_at (i / 64) (omega arith)) (none_in_zero (i % 64))
+    zero_at : get_or (replicate count 0 ++ drop (held_by n) ws) (i / 64) 0 ≡ 0
+    zero_at =
+        let within : i / 64 < count = omega (arith, length-take (held_by n) ws) in
+        get_or_append_left (replicate count 0) (drop (held_by n) ws) 0 (i / 64) (rw length-replicate within)
+        ∙ get_or-replicate count (i / 64) 0 0 within

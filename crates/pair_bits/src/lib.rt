@@ -16,11 +16,7 @@ pub fn clear_bits(words: &mut [u64], n: usize)
     ensures { Cleared words.new n }
 {
     let count = n / 64 + (n % 64 + 63) / 64;
-    let mut i = 0;
-    while i < count {
-        words[i] = 0;
-        i += 1;
-    }
+    words[..count].fill(0);
 }
 
 // Bit i is set.
@@ -47,13 +43,10 @@ pub fn sum_bits(words: &[u64], n: usize) -> usize
 {
     let filled = n / 64;
     let mut sum = 0;
-    let mut i = 0;
-    while i < filled && i < words.len() {
-        sum += u64::count_ones(words[i]) as usize;
-        i += 1;
+    for word in &words[..filled.min(words.len())] {
+        sum += u64::count_ones(*word) as usize;
     }
-    if i < words.len() {
-        let word = words[i];
+    if let Some(&word) = words.get(filled) {
         let last = word % (1u64 << (n % 64));
         sum += u64::count_ones(last) as usize;
     }

@@ -4,70 +4,45 @@
 // refusals 1 to 4 ensure.
 #![tactic(auto)]
 
-ghost use Rattle.std.specs.Prelude.{◌≡◌, ◌+◌, ◌≤◌, ◌<◌, length};
-ghost use Rattle.lamp_line.specs.Refusals.{some_below};
-ghost use Rattle.job_layout.specs.inner.Laid.{Laid};
-ghost use Rattle.job_layout.specs.FileRefusals.{action_wrong, target_wrong_at, row_wrong, target_wrong};
+ghost use Rattle.std.specs.Prelude.{◌≡◌, ◌<◌};
+ghost use Rattle.job_layout.specs.FileRefusals.{action_wrong, row_wrong, target_wrong};
 
-use job_layout::Job;
-use job_layout::places::action_place;
+use job_layout::LaidJob;
 use lamp_line::ProgramState;
 
 // Refusal 10 applies.
-pub fn action_wrong(file: &[u8], job: Job) -> bool
-    requires { Laid file.now job }
-    ensures { result ≡ action_wrong file.now job }
+pub fn action_wrong(laid: &LaidJob) -> bool
+    ensures { result ≡ action_wrong laid.now.file.now laid.now.head }
 {
-    let actions = job.actions;
-    let states = job.states;
-    let mut q = 0;
-    while q < states {
-        let at = action_place(job, ProgramState(q));
-        if actions <= file[at] {
+    for q in 0..laid.head.states {
+        let at = laid.head.action_place(ProgramState(q));
+        if laid.head.actions <= laid.file[at] {
             return true;
         }
-        q += 1;
-    }
-    false
-}
-
-// One of the `count` targets from `from` on is above the final state, and not 255.
-fn any_target_wrong(file: &[u8], from: usize, count: usize, states: u8) -> bool
-    requires { from + count ≤ length file.now }
-    ensures { result ≡ some_below count (target_wrong_at file.now from states) }
-{
-    let mut i = 0;
-    while i < count {
-        let target = file[from + i];
-        if (states < target) & (target != 255) {
-            return true;
-        }
-        i += 1;
     }
     false
 }
 
 // One of the targets of a program state is wrong.
-fn row_wrong(file: &[u8], job: Job, state: u8) -> bool
-    requires { Laid file.now job × (state < job.states) }
-    ensures { result ≡ row_wrong file.now job state }
+fn row_wrong(laid: &LaidJob, state: u8) -> bool
+    requires { state < laid.now.head.states }
+    ensures { result ≡ row_wrong laid.now.file.now laid.now.head state }
 {
-    let from = action_place(job, ProgramState(state)) + 1;
-    any_target_wrong(file, from, job.results as usize, job.states)
+    let from = laid.head.action_place(ProgramState(state)) + 1;
+    let targets = &laid.file[from..from + laid.head.results as usize];
+    targets
+        .iter()
+        .any(|target| (laid.head.states < *target) & (*target != 255))
 }
 
 // Refusal 11 applies.
-pub fn target_wrong(file: &[u8], job: Job) -> bool
-    requires { Laid file.now job }
-    ensures { result ≡ target_wrong file.now job }
+pub fn target_wrong(laid: &LaidJob) -> bool
+    ensures { result ≡ target_wrong laid.now.file.now laid.now.head }
 {
-    let states = job.states;
-    let mut q = 0;
-    while q < states {
-        if row_wrong(file, job, q) {
+    for q in 0..laid.head.states {
+        if row_wrong(laid, q) {
             return true;
         }
-        q += 1;
     }
     false
 }

@@ -21,12 +21,11 @@ use Rattle.check_laws.specs.inner.Search.{goes_on, conclusion, failing, line_lam
 use Rattle.check_laws.proofs.Layers.{Layer, InLayer, first_layer, line_in_layer, line_length, group_within, group_in_layer, next_in_layer, next_layer}
 use Rattle.check_laws.proofs.Layers.{layer_beyond}
 use Rattle.check_laws.proofs.SearchRest.{kinds_left, search_is, groups_done, group_begins, kinds_done, kind_goes_on, kind_answers}
-use Rattle.plan_search.specs.declared.SearchEnd.TheVariants.{AtLine}
 use Rattle.working_list.specs.inner.Placing.{entries, MemberOf, Chained}
 use Rattle.working_list.specs.inner.Listing.{table, Listed}
 use Rattle.line_trial.specs.inner.Trials.{Ready}
 use Rattle.plan_search.specs.inner.Searching.{NoneMet, Searched}
-use Rattle.plan_search.proofs.Sweeps.{held_few, Members, LineFails}
+use Rattle.plan_search.proofs.Sweeps.{held_few, at_line, Members, LineFails}
 use Rattle.working_list.proofs.EntryLaws.{entries_none}
 use Rattle.working_list.proofs.ListLaws.{listed_empty, count_fits, table_length}
 use Rattle.line_trial.proofs.TryingEnds.{ready_tables}
@@ -38,7 +37,7 @@ line_met :
     {s : List ℕ} {j : Job} {memory list words : List ℕ} {n longest lamps end : ℕ} {kind : FailureKind} → Ready s j memory →
     Listed (tables_by s j) list words n → (w k : ℕ) → verdict_of (tables_by s j) ≡ failing (table (tables_by s j) list n) k kind w end →
     lamps ≡ length (line_lamps (table (tables_by s j) list n) w k) → MemberOf n w k → lamps ≤ longest →
-    Searched (tables_by s j) longest (AtLine kind end n w k lamps) list
+    Searched (tables_by s j) longest (at_line kind end n w k lamps) list
 line_met {list = list} {n = n} ready listed w k is lamps_are member short =
     record {
       so = record {
@@ -120,20 +119,20 @@ module _
   layer_within : layer ≤ n
   layer_within = omega (arith, at.layered.in_table, table_length at.listed)
 
+  last_range : last ≤ j.kinds
+  last_range = go at.group
+    where
+      go : TriedNext t from to next layer lamps last kind → last ≤ j.kinds
+      go (the_starts is_to is_next is_layer is_lamps is_last) = omega arith
+      go (some_pairs some within is_next is_last low) = omega arith
+
+  -- The last kind is below 16.
+  pub last_few : last < 16
+  unfolding columns kinds_of_ends
+  last_few = omega (arith, last_range, (ready_tables at.ready).formed.columns_range)
+
   -- A kind with which they are tried.
   module _ (here : kind ≤ last) where
-    last_range : last ≤ j.kinds
-    last_range = go at.group
-      where
-        go : TriedNext t from to next layer lamps last kind → last ≤ j.kinds
-        go (the_starts is_to is_next is_layer is_lamps is_last) = omega arith
-        go (some_pairs some within is_next is_last low) = omega arith
-
-    -- It is below 16.
-    pub kind_few : kind < 16
-    unfolding columns kinds_of_ends
-    kind_few = omega (arith, last_range, (ready_tables at.ready).formed.columns_range)
-
     -- They are the members of the line.
     pub group_members : Members t n to kind
     group_members =
@@ -183,7 +182,7 @@ module _
     -- The line fails: it is what the search finds.
     pub kind_failed :
         {failure : FailureKind} {end w m : ℕ} {list' words' : List ℕ} → LineFails t list n from to kind list' words' m failure end w →
-        Searched t longest (AtLine failure end m w kind lamps) list'
+        Searched t longest (at_line failure end m w kind lamps) list'
     kind_failed {failure} {end} {w} {m} {list'} line =
         line_met at.ready line.listed w kind
         (at.verdict_is ∙ ap conclusion (kind_answers t at.fuel E from to last kind next here line.answer_is))

@@ -3,7 +3,7 @@ use mathlib.Core.Path.{◌≡◌, refl, sym, ap, subst, ◌∙◌}
 use mathlib.Core.Logic.{◌⊎◌, inl, inr}
 use mathlib.Core.Bool.{Bool, true, false}
 use mathlib.Core.List.{List}
-use Prim.Native.Nat.{ℕ, zero, suc, ◌+◌, ◌≤◌, ◌<◌}
+use Prim.Native.Nat.{ℕ, ◌+◌, ◌≤◌, ◌<◌}
 use native.Mathlib.Omega.{arith}
 use Rattle.lamp_line.specs.declared.FailureKind.{FailureKind}
 use Rattle.lamp_line.specs.Tables.{Tables}
@@ -18,12 +18,11 @@ use Rattle.working_list.specs.inner.Listing.{table, Listed}
 use Rattle.working_list.proofs.ListLaws.{count_fits, table_length}
 use Rattle.run_laws.proofs.Pairs.{pairs_few}
 use Rattle.line_trial.proofs.TryingEnds.{ready_tables}
-use Rattle.line_trial.specs.inner.Trials.{Ready, HasMember}
-use Rattle.line_trial.specs.declared.MemberEnd.{MemberEnd}
-use Rattle.line_trial.specs.declared.MemberEnd.TheVariants.{Fails, Holds}
+use Rattle.line_trial.specs.inner.Trials.{Ready}
+use Rattle.line_trial.specs.declared.FailingEnd.{FailingEnd}
 use Rattle.line_trial.specs.inner.Turning.{Grows, stays, adds, Keeps, grows, was_quiet, was_new, Turned}
-use Rattle.plan_search.specs.declared.SearchEnd.{SearchEnd}
-use Rattle.plan_search.specs.declared.SearchEnd.TheVariants.{AtLine}
+use Rattle.plan_search.specs.declared.FailingLine.{FailingLine}
+use Rattle.std.specs.Prelude.{Result, Ok, Err}
 
 -- The list holds at most 65 times 64 pairs.
 pub held_few :
@@ -36,21 +35,25 @@ pub record Members (t : Tables) (n to kind : ℕ) : Type 0 where
   pub places : 1 ≤ kind → to ≤ n
   pub kind_range : kind ≤ t.kinds
 
+-- The answer that a line fails.
+abbrev pub at_line : FailureKind → ℕ → ℕ → ℕ → ℕ → ℕ → Result ℕ FailingLine
+at_line failure end n w k lamps = Err (record { failure = failure; end = end; count = n; member = w; kind = k; lamps = lamps })
+
 -- What the members from i on give, where the list holds the n entries of E: the line has failed from none of those before them; or it has,
 -- and its failure from the member w is the first so far. That is not one with the lowest end, since the search ends there.
 pub data Gives
-    (t : Tables) (before : ℕ) (E : List Entry) (n from to k lamps i : ℕ) (clean : Bool) (lowest : ℕ) (ended : SearchEnd) (r : Turn) :
+    (t : Tables) (before : ℕ) (E : List Entry) (n from to k lamps i : ℕ) (clean : Bool) (lowest : ℕ) (ended : Result ℕ FailingLine) (r : Turn) :
     Type 0 where
   none_failed : clean ≡ true → r ≡ members_left t before E i to k → Gives t before E n from to k lamps i clean lowest ended r
   some_failed :
-      (w : ℕ) (kind : FailureKind) → clean ≡ false → ended ≡ AtLine kind lowest n w k lamps → from ≤ w → w < to → 0 < lowest →
+      (w : ℕ) (kind : FailureKind) → clean ≡ false → ended ≡ at_line kind lowest n w k lamps → from ≤ w → w < to → 0 < lowest →
       r ≡ answers (lowest_left t E i to k kind w lowest) → Gives t before E n from to k lamps i clean lowest ended r
 
 -- A line with this number of lamps is tried from the members from i on. The list held `before` pairs before it was tried; it holds n now.
 -- What is left gives what the whole line gives.
 pub record Sweeping
     (s : List ℕ) (j : Job) (list₀ : List ℕ) (before from to k lamps : ℕ) (memory list words : List ℕ) (n : ℕ) (clean : Bool) (lowest : ℕ)
-    (ended : SearchEnd) (i : ℕ) : Type 0 where
+    (ended : Result ℕ FailingLine) (i : ℕ) : Type 0 where
   pub ready : Ready s j memory
   pub listed : Listed (tables_by s j) list words n
   pub members : Members (tables_by s j) before to k
@@ -71,7 +74,7 @@ pub record LineFails
 
 -- No member was tried yet.
 pub sweeping_begins :
-    {s : List ℕ} {j : Job} {memory list words : List ℕ} {n from to k lamps lowest : ℕ} {clean : Bool} {ended : SearchEnd} → Ready s j memory →
+    {s : List ℕ} {j : Job} {memory list words : List ℕ} {n from to k lamps lowest : ℕ} {clean : Bool} {ended : Result ℕ FailingLine} → Ready s j memory →
     Listed (tables_by s j) list words n → Members (tables_by s j) n to k → clean ≡ true →
     Sweeping s j list n from to k lamps memory list words n clean lowest ended from
 sweeping_begins {s} {j} {memory} {list} {words} {n} {from} {to} {k} ready listed members none =
@@ -89,7 +92,7 @@ sweeping_begins {s} {j} {memory} {list} {words} {n} {from} {to} {k} ready listed
 
 module _
     {s : List ℕ} {j : Job} {list₀ : List ℕ} {before from to k lamps : ℕ} {memory list words : List ℕ} {n : ℕ} {clean : Bool} {lowest : ℕ}
-    {ended : SearchEnd} {i : ℕ} (at : Sweeping s j list₀ before from to k lamps memory list words n clean lowest ended i) where
+    {ended : Result ℕ FailingLine} {i : ℕ} (at : Sweeping s j list₀ before from to k lamps memory list words n clean lowest ended i) where
   abbrev t : Tables
   t = tables_by s j
 
@@ -100,32 +103,15 @@ module _
   abbrev whole : Turn
   whole = line_tried t (table t list₀ before) from to k
 
-  -- There are few members.
-  pub members_few : to ≤ 4160
-  members_few = go k refl
-    where
-      go : (c : ℕ) → k ≡ c → to ≤ 4160
-      go zero none = omega (arith, at.members.starts none, (ready_tables at.ready).formed.worlds_range.1)
-      go (suc c) lamp = omega (arith, at.members.places (omega arith), at.more, held_few at.ready at.listed)
-
   module _ (here : i < to) where
-    -- The member that is tried.
-    pub sweeping_member : HasMember t n i k
-    sweeping_member =
-        record {
-          a_start = λ none. omega (arith, at.members.starts none);
-          a_place = λ lamp. omega (arith, at.members.places lamp, at.more);
-          kind_range = at.members.kind_range;
-        }
-
     module _
-        {r : MemberEnd} {list' words' memory' : List ℕ} (turned : Turned t list n before i k clean r list' words')
+        {r : Result ℕ FailingEnd} {list' words' memory' : List ℕ} (turned : Turned t list n before i k clean r list' words')
         (remembers : Memory t memory') where
-      turned_as : {u : MemberEnd} → r ≡ u → Turned t list n before i k clean u list' words'
-      turned_as is = subst (λ (u : MemberEnd). Turned t list n before i k clean u list' words') is turned
+      turned_as : {u : Result ℕ FailingEnd} → r ≡ u → Turned t list n before i k clean u list' words'
+      turned_as is = subst (λ (u : Result ℕ FailingEnd). Turned t list n before i k clean u list' words') is turned
 
       -- The line does not fail from it: the next member is tried.
-      pub sweeping_on : {m : ℕ} → r ≡ Holds m → Sweeping s j list₀ before from to k lamps memory' list' words' m clean lowest ended (i + 1)
+      pub sweeping_on : {m : ℕ} → r ≡ Ok m → Sweeping s j list₀ before from to k lamps memory' list' words' m clean lowest ended (i + 1)
       sweeping_on {m} is =
           let (keeps, listed, more) = (turned_as is).so in
           record {
@@ -144,7 +130,7 @@ module _
 
           -- After a failure the list stays as it is.
           still :
-              (w : ℕ) (kind : FailureKind) → clean ≡ false → ended ≡ AtLine kind lowest n w k lamps → from ≤ w → w < to → 0 < lowest →
+              (w : ℕ) (kind : FailureKind) → clean ≡ false → ended ≡ at_line kind lowest n w k lamps → from ≤ w → w < to → 0 < lowest →
               whole ≡ answers (lowest_left t E (i + 1) to k kind w lowest) → list' ≡ list → m ≡ n →
               Gives t before (table t list' m) m from to k lamps (i + 1) clean lowest ended whole
           still w kind some ended_is w_low w_high above e same count =
@@ -163,12 +149,18 @@ module _
               still w kind some ended_is w_low w_high above (e ∙ ap answers (lowest_finds t E i to k kind w lowest here q)) same count
 
       -- The line fails from it.
-      module _ {kind' : FailureKind} {end' : ℕ} (is : r ≡ Fails kind' end') where
+      module _ {fails : FailingEnd} (is : r ≡ Err fails) where
+        abbrev kind' : FailureKind
+        kind' = fails.failure
+
+        abbrev end' : ℕ
+        end' = fails.end
+
         failed_so : (tried t E i k ≡ fails_at kind' end') × (list' ≡ list) × Listed t list' words' n
         failed_so = (turned_as is).so
 
         next :
-            {clean' : Bool} {lowest' : ℕ} {ended' : SearchEnd} → Gives t before E n from to k lamps (i + 1) clean' lowest' ended' whole →
+            {clean' : Bool} {lowest' : ℕ} {ended' : Result ℕ FailingLine} → Gives t before E n from to k lamps (i + 1) clean' lowest' ended' whole →
             Sweeping s j list₀ before from to k lamps memory' list' words' n clean' lowest' ended' (i + 1)
         next {clean'} {lowest'} {ended'} gives =
             record {
@@ -195,7 +187,7 @@ module _
         -- Its failure is named so far.
         pub sweeping_fails :
             0 < end' → (clean ≡ true) ⊎ (end' < lowest) →
-            Sweeping s j list₀ before from to k lamps memory' list' words' n false end' (AtLine kind' end' n i k lamps) (i + 1)
+            Sweeping s j list₀ before from to k lamps memory' list' words' n false end' (at_line kind' end' n i k lamps) (i + 1)
         sweeping_fails above first =
             next (some_failed i kind' refl refl at.low here above (first_so_far at.gives first))
 
@@ -245,12 +237,12 @@ module _
     -- It has failed from some: the first failure is that of the line.
     pub sweeping_failed :
         clean ≡ false →
-        (w : ℕ) × (kind : FailureKind) × (ended ≡ AtLine kind lowest n w k lamps) × LineFails t list₀ before from to k list words n kind lowest w
+        (w : ℕ) × (kind : FailureKind) × (ended ≡ at_line kind lowest n w k lamps) × LineFails t list₀ before from to k list words n kind lowest w
     sweeping_failed some = go at.gives
       where
         go :
             Gives t before E n from to k lamps i clean lowest ended whole →
-            (w : ℕ) × (kind : FailureKind) × (ended ≡ AtLine kind lowest n w k lamps)
+            (w : ℕ) × (kind : FailureKind) × (ended ≡ at_line kind lowest n w k lamps)
             × LineFails t list₀ before from to k list words n kind lowest w
         go (none_failed none e) = absurd (let z : ◌≡◌ {A = ℕ} 0 1 = cc in omega arith)
         go (some_failed w kind _ ended_is w_low w_high above e) = (

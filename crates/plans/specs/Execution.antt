@@ -1,6 +1,6 @@
 -- The execution of a plan, and when a plan is correct: 001 (Hu and Levesque, 2011), Definitions 4 and 5.
 use Rattle.std.specs.Prelude.{◌≡◌, ◌≢◌, List, [], ◌∷◌, ◌++◌, ℕ, suc}
-use Rattle.std.proofs.Math.Option.{some}
+use Rattle.std.specs.Prelude.{Some}
 use Rattle.plans.specs.Plan.{Action, Result, ActionTheory, PlanningProblem, Plan}
 
 -- What can be seen of a step: its action and its sensing result.
@@ -20,7 +20,7 @@ module _ (D : ActionTheory) (P : Plan) where
     pub live : q ≢ P.final
     pub acts : action_of step ≡ P.γ q
     pub does : D.Does (P.γ q) s (result_of step) s'
-    pub branch : P.δ q (result_of step) ≡ some q'
+    pub branch : P.δ q (result_of step) ≡ Some q'
 
   -- 001, Definition 4: the least relation that satisfies the three clauses. It also carries the labels of the steps, first to last;
   -- the length of that list is the number of steps.

@@ -1,5 +1,5 @@
 -- Action theories, planning problems and plans: 001 (Hu and Levesque, 2011), Definitions 1 and 2.
-use Rattle.std.proofs.Math.Option.{Option}
+use Rattle.std.specs.Prelude.{Option}
 use Rattle.std.specs.Prelude.{ℕ}
 
 -- 001 leaves open what actions and sensing results are; 01 numbers both from 0.

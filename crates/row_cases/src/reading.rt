@@ -2,7 +2,6 @@
 // where a read of its input does, and nowhere else; a buffer may then hold any bytes, as many as before.
 ghost use Rattle.std.specs.Prelude.{◌≡◌, ◌≤◌, IfOk, length};
 
-use crate::printing::print_text;
 use std::io;
 use std::io::Read;
 
@@ -15,86 +14,68 @@ pub fn read_byte(rows: &mut impl Read) -> io::Result<u8> {
     Ok(byte[0])
 }
 
+// The bytes of a number, the lowest first.
+fn read_bytes<const N: usize>(rows: &mut impl Read) -> io::Result<[u8; N]> {
+    let mut bytes = [0u8; N];
+    for byte in bytes.iter_mut() {
+        *byte = read_byte(rows)?;
+    }
+    Ok(bytes)
+}
+
 // A number of two bytes, the lower first.
-pub fn read_two(rows: &mut impl Read) -> io::Result<u16> {
-    let low = read_byte(rows)?;
-    let high = read_byte(rows)?;
-    Ok(low as u16 + 256 * high as u16)
+pub fn read_u16(rows: &mut impl Read) -> io::Result<u16> {
+    Ok(u16::from_le_bytes(read_bytes(rows)?))
 }
 
-// A number of four bytes, the lower two first.
-pub fn read_four(rows: &mut impl Read) -> io::Result<u32> {
-    let low = read_two(rows)?;
-    let high = read_two(rows)?;
-    Ok(low as u32 + 65536 * high as u32)
+// A number of four bytes, the lowest first.
+pub fn read_u32(rows: &mut impl Read) -> io::Result<u32> {
+    Ok(u32::from_le_bytes(read_bytes(rows)?))
 }
 
-// A number of eight bytes, the lower four first.
-pub fn read_eight(rows: &mut impl Read) -> io::Result<u64> {
-    let low = read_four(rows)?;
-    let high = read_four(rows)?;
-    Ok(low as u64 + 4294967296 * high as u64)
+// A number of eight bytes, the lowest first.
+pub fn read_u64(rows: &mut impl Read) -> io::Result<u64> {
+    Ok(u64::from_le_bytes(read_bytes(rows)?))
 }
 
-// The lower of two numbers.
-pub fn least(a: usize, b: usize) -> usize
-    ensures { (result ≤ a) × (result ≤ b) }
-{
-    if a < b { a } else { b }
-}
-
-// The next byte of a run: a new one within its piece, and after the piece the byte that stands one piece before.
-fn run_byte(
-    rows: &mut impl Read,
-    buffer: &[u8],
-    at: usize,
-    done: usize,
-    piece: usize,
-) -> io::Result<u8> {
-    if done < piece {
-        return read_byte(rows);
-    }
-    if at < piece {
-        return Ok(0);
-    }
-    let from = at - piece;
-    if buffer.len() <= from {
-        return Ok(0);
-    }
-    Ok(buffer[from])
-}
-
-// A run, which is a piece of bytes repeated up to a size: it is written from a place on, as far as the buffer goes. Answers where it ends.
-fn read_run(rows: &mut impl Read, buffer: &mut [u8], from: usize) -> io::Result<usize>
-    requires { from ≤ length buffer.old }
-    ensures end { IfOk result (λ end. end ≤ length buffer.new) }
+// A run, which is a piece of bytes repeated up to a size: it is written to the front of the buffer, as far as this goes. Behind the piece each byte is
+// the one that stands one piece before. Answers how many bytes were written.
+fn read_run(rows: &mut impl Read, buffer: &mut [u8]) -> io::Result<usize>
+    ensures size { IfOk result (λ size. size ≤ length buffer.new) }
     ensures kept { length buffer.new ≡ length buffer.old }
 {
-    let piece = read_two(rows)? as usize;
-    let size = least(read_four(rows)? as usize, buffer.len() - from);
-    for done in 0..size {
-        let byte = run_byte(rows, buffer, from + done, done, piece)?;
-        buffer[from + done] = byte;
+    let piece = usize::from(read_u16(rows)?);
+    let size = buffer.len().min(read_u32(rows)? as usize);
+    for byte in &mut buffer[..size.min(piece)] {
+        *byte = read_byte(rows)?;
     }
-    Ok(from + size)
+    for at in piece..size {
+        buffer[at] = buffer[at - piece];
+    }
+    Ok(size)
 }
 
-// A field, which is a list of runs: it is written to the front of the buffer. Answers how many bytes it has.
+// A field, which is a list of runs: it is written to the front of the buffer. Answers how many bytes it has there.
 pub fn read_field(rows: &mut impl Read, buffer: &mut [u8]) -> io::Result<usize>
     ensures size { IfOk result (λ size. size ≤ length buffer.new) }
     ensures kept { length buffer.new ≡ length buffer.old }
 {
-    let runs = read_two(rows)?;
+    let runs = read_u16(rows)?;
     let mut size = 0;
     for _ in 0..runs {
-        size = read_run(rows, buffer, size)?;
+        size += read_run(rows, &mut buffer[size..])?;
     }
     Ok(size)
+}
+
+// A field as the part of the buffer that it fills.
+pub fn read_slice<'a>(rows: &mut impl Read, buffer: &'a mut [u8]) -> io::Result<&'a [u8]> {
+    let size = read_field(rows, buffer)?;
+    Ok(&buffer[..size])
 }
 
 // Prints a field as it is.
 pub fn print_field(rt: &impl Print, rows: &mut impl Read) -> io::Result<()> {
     let mut text = [0u8; 4096];
-    let size = read_field(rows, &mut text)?;
-    print_text(rt, &text[..size])
+    rt.write_all(read_slice(rows, &mut text)?)
 }

@@ -1,12 +1,5 @@
 -- The values after a rule are in their ranges, as those before are, if the rule's own values are.
-use mathlib.Core.Bool.{Bool, true, false, ◌&&◌}
-use mathlib.Core.List.{List, [], ◌∷◌}
-use mathlib.Core.Path.{◌≡◌, refl}
-use Prim.Native.Nat.{ℕ, ◌<◌}
-use native.Mathlib.Omega.{arith}
-use borrow.Author.Tests.{leb-false}
-use lib.Dec.{eqb, leb}
-use lib.ListN.{length}
+use Rattle.std.proofs.Common.{Bool, true, false, ◌&&◌, List, [], ◌∷◌, ◌≡◌, refl, ℕ, ◌<◌, arith, leb-false, eqb, leb, length}
 use Rattle.fluent_rules.specs.CellRules.{some_pair, new_value, new_values}
 use Rattle.fluent_rules.specs.Fluents.{Values}
 use Rattle.rules_file.specs.RulesRefusal.{value_wrong}

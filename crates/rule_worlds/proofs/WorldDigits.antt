@@ -1,12 +1,7 @@
 -- The values of a world state, fluent by fluent, from the first on.
-use mathlib.Core.List.{append_assoc, append-nil, List, ◌++◌}
-use mathlib.Core.Path.{◌≡◌, refl, sym, ◌∙◌}
-use Prim.Native.Nat.{ℕ, suc, ◌+◌, ◌*◌, ◌/◌, ◌%◌, ◌≤◌, ◌<◌}
-use native.Mathlib.Nat.{mul-div_right}
-use native.Mathlib.Numerals.{add-one}
-use native.Mathlib.Omega.{arith}
-use lib.ListN.{length, get_or, take, drop, set}
-use lib.Seq.{drop-cons, drop-length, take-suc-set}
+use Rattle.std.proofs.Common.{append_assoc, append-nil, List, ◌++◌, ◌≡◌, sym, ◌∙◌, ℕ, suc, ◌+◌, ◌*◌, ◌/◌, ◌%◌, ◌≤◌, ◌<◌, add-one, arith, length, get_or, take, drop, set, drop-cons, take-suc-set}
+use Rattle.std.proofs.Math.Nat.{mul-div_right}
+use Rattle.std.proofs.Math.Seq.{drop-length}
 use Rattle.fluent_rules.specs.Fluents.{world_count, values_in}
 use Rattle.fluent_rules.proofs.WorldNumbers.{factors_positive}
 
@@ -16,10 +11,6 @@ pub record Decoded (counts : List ℕ) (world i weight rest : ℕ) (values : Lis
   pub weighs : weight ≡ world_count (drop i counts)
   pub positive : 0 < weight
   pub so_far : take i values ++ values_in (drop i counts) rest ≡ values_in counts world
-
-pub decoded_start : {counts : List ℕ} {world weight : ℕ} {values : List ℕ} → weight ≡ world_count counts → 0 < weight →
-    Decoded counts world 0 weight world values
-decoded_start e positive = record { within = omega arith; weighs = e; positive = positive; so_far = refl }
 
 module _ {counts : List ℕ} {world i weight rest : ℕ} {values : List ℕ} (before : Decoded counts world i weight rest values) where
   -- The weight is the count times the next weight; neither is 0.

@@ -19,12 +19,10 @@ pub fn world_values(counts: &[u8], worlds: u8, world: WorldState, values: &mut [
 {
     let mut weight = worlds;
     let mut rest = world.0;
-    let mut i = 0;
-    while i < counts.len() {
-        weight = weight / counts[i];
+    for (i, count) in counts.iter().enumerate() {
+        weight /= *count;
         values[i] = rest / weight;
-        rest = rest % weight;
-        i += 1;
+        rest %= weight;
     }
 }
 
@@ -39,14 +37,10 @@ pub fn wants(wanted: &[u8], values: &[u8]) -> bool
     requires { length wanted.now ≡ length values.now }
     ensures { result ≡ not (some_pair unwanted wanted.now values.now) }
 {
-    let mut i = 0;
-    while i < wanted.len() {
-        if is_unwanted(wanted[i], values[i]) {
-            return false;
-        }
-        i += 1;
-    }
-    true
+    !wanted
+        .iter()
+        .zip(values)
+        .any(|(wanted, value)| is_unwanted(*wanted, *value))
 }
 
 fn new_value(new: u8, value: u8) -> u8
@@ -65,10 +59,8 @@ pub fn new_world(counts: &[u8], new: &[u8], values: &[u8]) -> WorldState
     ensures { result.0 ≡ world_number counts.now (new_values new.now values.now) }
 {
     let mut world = 0u8;
-    let mut i = 0;
-    while i < counts.len() {
-        world = world * counts[i] + new_value(new[i], values[i]);
-        i += 1;
+    for (i, count) in counts.iter().enumerate() {
+        world = world * *count + new_value(new[i], values[i]);
     }
     WorldState(world)
 }

@@ -1,3 +1,4 @@
 pub mod CountsProduct
+pub mod PairTests
 pub mod RuleBytes
 pub mod RulesTested

@@ -1,10 +1,5 @@
 -- Where the bytes of a rules file lie.
-use mathlib.Core.List.{List}
-use mathlib.Core.Path.{◌≡◌}
-use Prim.Native.Nat.{ℕ, ◌+◌, ◌*◌, ◌≤◌, ◌<◌, suc, ◌-◌}
-use native.Mathlib.Nat.{suc-mul, mul-le-mul_right, div-mul-le_self}
-use native.Mathlib.Omega.{arith}
-use lib.ListN.{length, length-take, length-drop}
+use Rattle.std.proofs.Common.{List, ◌≡◌, ℕ, ◌+◌, ◌*◌, ◌≤◌, ◌<◌, suc, ◌-◌, suc-mul, mul-le-mul_right, div-mul-le_self, arith, length, length-take, length-drop}
 use Rattle.rules_file.specs.RulesFile.{fluents, fluent_bytes, rules_place, rule_size, rule_count}
 
 -- A number for each fluent.

@@ -1,11 +1,7 @@
 -- Refusal 22, test by test: each test that applies decides, and a file to which none applies is right.
-use mathlib.Core.Bool.{Bool, true, false, or-true}
-use mathlib.Core.List.{List}
-use mathlib.Core.Path.{◌≡◌}
-use Prim.Native.Nat.{ℕ, ◌-◌, ◌%◌, ◌≤◌, ◌<◌}
-use native.Mathlib.Omega.{arith}
-use borrow.Author.Tests.{ltb-false, lt-ltb, le-ltb, eq-eqb, ne_eqb, leb-false}
-use lib.ListN.{get_or-eq_default, length}
+use Rattle.std.proofs.Common.{Bool, true, false, List, ◌≡◌, ℕ, ◌-◌, ◌%◌, ◌≤◌, ◌<◌, arith, ltb-false, lt-ltb, le-ltb, eq-eqb, ne_eqb, leb-false, length}
+use Rattle.std.proofs.Math.Bool.{or-true}
+use Rattle.std.proofs.Math.ListN.{get_or-eq_default}
 use Rattle.lamp_line.specs.Refusals.{some_below}
 use Rattle.lamp_line.proofs.Scan.{none_at}
 use Rattle.job_layout.specs.FileRefusals.{outside, ranges_wrong, differs}

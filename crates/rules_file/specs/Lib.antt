@@ -1,2 +1,3 @@
 pub mod RulesFile
 pub mod RulesRefusal
+pub mod inner

@@ -1,20 +1,20 @@
-// Refusal 22 (02, (e)): is a rules file one from which cells can be filled? `rules_wrong` asks nothing of its caller; the other functions are
-// for it and for the crates above, and not for users.
+// Refusal 22 (02, (e)): is a rules file one from which cells can be filled? `rules_wrong` asks nothing of its caller. A file of which it has
+// answered that it is not wrong is `Rules`, which is for the crates above and not for users.
 #![tactic(auto)]
 
-ghost use Rattle.std.specs.Prelude.{◌≡◌, ◌+◌, ◌*◌, ◌≤◌, ◌<◌, length};
+ghost use Rattle.std.specs.Prelude.{false, ◌≡◌, ◌+◌, ◌*◌, ◌≤◌, ◌<◌, length};
 ghost use Rattle.fluent_rules.specs.Fluents.{world_count};
 ghost use Rattle.fluent_rules.specs.CellRules.{some_pair};
 ghost use Rattle.lamp_line.specs.Refusals.{some_below};
 ghost use Rattle.rules_file.specs.RulesFile.{fluents, fluent_bytes, value_counts, rules_place, rule_size, rule_count, rule_from, rule_at};
+ghost use Rattle.rules_file.specs.inner.RulesRead.{rule_read};
 ghost use Rattle.rules_file.specs.RulesRefusal.{column_wrong, value_wrong, rule_wrong, rules_wrong};
 
 use head_refusals::ranges_wrong;
 use job_layout::Sizes;
-use job_layout::places::width;
 
 // The numbers of the fluents, one for each, from byte `at` on.
-pub fn fluent_bytes(rules: &[u8], at: usize) -> &[u8]
+fn fluent_bytes(rules: &[u8], at: usize) -> &[u8]
     requires { (0 < length rules.now) × (at + fluents rules.now ≤ length rules.now) }
     ensures { result.now ≡ fluent_bytes rules.now at }
 {
@@ -28,10 +28,8 @@ fn world_count(counts: &[u8]) -> u64
     ensures { result ≡ world_count counts.now }
 {
     let mut product = 1u64;
-    let mut i = 0;
-    while i < counts.len() {
-        product = product * counts[i] as u64;
-        i += 1;
+    for count in counts {
+        product *= *count as u64;
     }
     product
 }
@@ -39,7 +37,7 @@ fn world_count(counts: &[u8]) -> u64
 fn column_wrong(sizes: Sizes, column: u8) -> bool
     ensures { result ≡ column_wrong sizes column }
 {
-    (width(sizes) <= column as usize) & (column < 254)
+    (sizes.width() <= column as usize) & (column < 254)
 }
 
 fn value_wrong(count: u8, value: u8) -> bool
@@ -50,17 +48,12 @@ fn value_wrong(count: u8, value: u8) -> bool
 
 // One of the values is out of its fluent's range.
 fn values_wrong(counts: &[u8], values: &[u8]) -> bool
-    requires { length values.now ≡ length counts.now }
     ensures { result ≡ some_pair value_wrong counts.now values.now }
 {
-    let mut i = 0;
-    while i < counts.len() {
-        if value_wrong(counts[i], values[i]) {
-            return true;
-        }
-        i += 1;
-    }
-    false
+    counts
+        .iter()
+        .zip(values)
+        .any(|(count, value)| value_wrong(*count, *value))
 }
 
 // The rule from byte `at` on is wrong.
@@ -87,7 +80,7 @@ fn rule_size(rules: &[u8]) -> usize
 }
 
 // Where rule i begins.
-pub fn rule_place(rules: &[u8], i: usize) -> usize
+fn rule_place(rules: &[u8], i: usize) -> usize
     requires { rules_place rules.now + i * rule_size rules.now + rule_size rules.now ≤ length rules.now }
     ensures { result ≡ rules_place rules.now + i * rule_size rules.now }
 {
@@ -95,7 +88,7 @@ pub fn rule_place(rules: &[u8], i: usize) -> usize
 }
 
 // How many rules there are.
-pub fn rule_count(rules: &[u8]) -> usize
+fn rule_count(rules: &[u8]) -> usize
     requires { rules_place rules.now ≤ length rules.now }
     ensures { result ≡ rule_count rules.now }
 {
@@ -107,13 +100,10 @@ fn any_rule_wrong(rules: &[u8], sizes: Sizes) -> bool
     requires { rules_place rules.now ≤ length rules.now }
     ensures { result ≡ some_below (rule_count rules.now) (λ i. rule_wrong sizes (value_counts rules.now) (rule_at rules.now i)) }
 {
-    let count = rule_count(rules);
-    let mut i = 0;
-    while i < count {
+    for i in 0..rule_count(rules) {
         if rule_wrong(rules, sizes, rule_place(rules, i)) {
             return true;
         }
-        i += 1;
     }
     false
 }
@@ -144,4 +134,54 @@ pub fn rules_wrong(rules: &[u8], sizes: Sizes) -> bool
         return true;
     }
     any_rule_wrong(rules, sizes)
+}
+
+// A rule, with a wanted and a new value for each fluent.
+#[derive(Clone, Copy)]
+pub struct Rule<'a> {
+    pub action: u8,
+    pub result: u8,
+    pub column: u8,
+    pub wanted: &'a [u8],
+    pub new: &'a [u8],
+}
+
+// A rules file to which refusal 22 does not apply.
+#[derive(Clone, Copy)]
+pub struct Rules<'a> {
+    pub bytes: &'a [u8],
+    pub sizes: Sizes,
+    ghost right: { rules_wrong bytes.now sizes ≡ false },
+}
+
+impl<'a> Rules<'a> {
+    // How many values each fluent has.
+    pub fn counts(&self) -> &'a [u8]
+        ensures { result.now ≡ value_counts self.now.bytes.now }
+    {
+        fluent_bytes(self.bytes, 1)
+    }
+
+    // How many rules there are.
+    pub fn count(&self) -> usize
+        ensures { result ≡ rule_count self.now.bytes.now }
+    {
+        rule_count(self.bytes)
+    }
+
+    // Rule i.
+    pub fn rule(&self, i: usize) -> Rule<'a>
+        requires { i < rule_count self.now.bytes.now }
+        ensures { rule_read result.action result.result result.column result.wanted.now result.new.now ≡ rule_at self.now.bytes.now i }
+    {
+        let at = rule_place(self.bytes, i);
+        let fluents = self.bytes[0] as usize;
+        Rule {
+            action: self.bytes[at],
+            result: self.bytes[at + 1],
+            column: self.bytes[at + 2],
+            wanted: fluent_bytes(self.bytes, at + 3),
+            new: fluent_bytes(self.bytes, at + 3 + fluents),
+        }
+    }
 }

@@ -3,7 +3,7 @@
 use mathlib.Core.Path.{◌≡◌, refl, sym, ap, subst}
 use mathlib.Core.Logic.{◌≢◌, inl}
 use mathlib.Core.Bool.{Bool, true, false, cond}
-use mathlib.Core.Option.{Option, none, some}
+use Rattle.std.specs.Prelude.{Option, None, Some}
 use mathlib.Core.List.{List, [], ◌∷◌}
 use Prim.Native.Nat.{ℕ}
 use native.Mathlib.Omega.{arith}
@@ -22,7 +22,8 @@ use Rattle.lamp_line.specs.inner.WellFormed.{WellFormed}
 use Rattle.lamp_line.specs.Tables.{passed, rest_after, lamp_theory, lamp_problem, plan_of}
 use Rattle.lamp_line.specs.Endings.{Ends}
 use Rattle.lamp_line.specs.Check.{situation}
-use Rattle.lamp_line.specs.Run.{Pair, pair, Move, ends, stays, passes, is_final, judged, branched, carried_out, act}
+use Rattle.lamp_line.specs.declared.Pair.{Pair}
+use Rattle.lamp_line.specs.Run.{pair, Move, ends, stays, passes, is_final, judged, branched, carried_out, act}
 use Rattle.plans.proofs.Executions.{Halted}
 use Rattle.run_laws.specs.inner.Pairs.{InRange}
 use Rattle.lamp_line.proofs.Members.{none_in_empty}
@@ -80,7 +81,7 @@ module _ (t : Tables) where
     module _ (live : p.state ≢ final t) where
       step_made :
           {w : WorldState} {r : Result} {more : List Outcome} {q : ProgramState} {line' : Line} →
-          outcomes p.state p.world line ≡ outcome w r ∷ more → t.target p.state r ≡ some q →
+          outcomes p.state p.world line ≡ outcome w r ∷ more → t.target p.state r ≡ Some q →
           line' ≡ rest_after t (t.action p.state) line → StepAt p line (did (t.action p.state) r) (pair q w) line'
       step_made {w} {r} {more} e f rest =
           record {
@@ -95,11 +96,11 @@ module _ (t : Tables) where
           (target : Option ProgramState) → t.target p.state r ≡ target →
           (b : Bool) → moves_on t (t.action p.state) ≡ b → MoveMeans p line (branched t (t.action p.state) w target)
       unfolding MoveMeans Ends
-      means_branched w r more e none f b m =
+      means_branched w r more e None f b m =
           let rest = rest_after t (t.action p.state) line in
           (live, (r, situation w rest, (first_in (outcome w r) (outcomes p.state p.world line) more e, refl), f))
-      means_branched w r more e (some q) f true m = rw m (did (t.action p.state) r, step_made e f (rw m), m)
-      means_branched w r more e (some q) f false m = rw m (did (t.action p.state) r, step_made e f (rw m))
+      means_branched w r more e (Some q) f true m = rw m (did (t.action p.state) r, step_made e f (rw m), m)
+      means_branched w r more e (Some q) f false m = rw m (did (t.action p.state) r, step_made e f (rw m))
 
       means_tried :
           (found : List Outcome) → outcomes p.state p.world line ≡ found → MoveMeans p line (carried_out t p.state found)

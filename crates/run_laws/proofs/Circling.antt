@@ -12,7 +12,8 @@ use Rattle.lamp_line.specs.declared.ProgramState.{ProgramState}
 use Rattle.lamp_line.specs.Tables.{Tables, Line, Situation, program_state, final, column, lamp_theory, plan_of}
 use Rattle.lamp_line.specs.inner.WellFormed.{WellFormed}
 use Rattle.lamp_line.specs.Check.{situation}
-use Rattle.lamp_line.specs.Run.{Pair, Move, ends, stays, passes, act}
+use Rattle.lamp_line.specs.declared.Pair.{Pair}
+use Rattle.lamp_line.specs.Run.{Move, ends, stays, passes, act}
 use Rattle.plans.proofs.Pigeonhole.{Repeat, pigeonhole}
 use Rattle.plans.proofs.Executions.{first_steps, same_length_same_execution}
 use Rattle.run_laws.specs.inner.Pairs.{InRange, pair_number}

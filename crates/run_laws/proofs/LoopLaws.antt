@@ -12,7 +12,8 @@ use Rattle.lamp_line.specs.declared.FailureKind.TheVariants.{Circles}
 use Rattle.lamp_line.specs.declared.Ending.{Ending}
 use Rattle.lamp_line.specs.declared.Ending.TheVariants.{Failure}
 use Rattle.lamp_line.specs.Tables.{Tables, column, line_of}
-use Rattle.lamp_line.specs.Run.{Pair, ends, stays, passes, Walk, ended, arrived, Run, ran, stopped}
+use Rattle.lamp_line.specs.declared.Pair.{Pair}
+use Rattle.lamp_line.specs.Run.{ends, stays, passes, Walk, ended, arrived, Run, ran, stopped}
 use Rattle.lamp_line.specs.Run.{own_steps, is_final, judged, act, walk, lamp_walk, along, limited}
 use Rattle.run_laws.proofs.Walks.{walk_after, walk_spent, walk_ends, walk_stays, walk_passes}
 use Rattle.run_laws.proofs.Runs.{run_after, along_ends, along_passes}

@@ -5,7 +5,8 @@ use native.Mathlib.Omega.{arith}
 use lib.Arith.{digits_lt, digits_div, digits_mod}
 use Rattle.lamp_line.specs.Tables.{Tables, program_state, world_state}
 use Rattle.lamp_line.specs.inner.WellFormed.{WellFormed}
-use Rattle.lamp_line.specs.Run.{Pair, pair}
+use Rattle.lamp_line.specs.declared.Pair.{Pair}
+use Rattle.lamp_line.specs.Run.{pair}
 use Rattle.lamp_line.proofs.Products.{product_le}
 use Rattle.run_laws.specs.inner.Pairs.{InRange, pairs, pair_number, pair_of}
 

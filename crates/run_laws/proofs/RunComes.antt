@@ -16,7 +16,8 @@ use Rattle.lamp_line.specs.Tables.{Tables, Line, lamp_column, line_of}
 use Rattle.lamp_line.specs.inner.WellFormed.{WellFormed}
 use Rattle.lamp_line.specs.Endings.{Ends}
 use Rattle.lamp_line.specs.Check.{situation, Arrival}
-use Rattle.lamp_line.specs.Run.{Pair, pair, Walk, ended, arrived, Run, ran, lamp_walk, along, run}
+use Rattle.lamp_line.specs.declared.Pair.{Pair}
+use Rattle.lamp_line.specs.Run.{pair, Walk, ended, arrived, Run, ran, lamp_walk, along, run}
 use Rattle.lamp_line.specs.Tables.{Beginning}
 use Rattle.lamp_line.specs.Executions.{Execution, RestsAfter, Comes}
 use Rattle.run_laws.specs.inner.Pairs.{InRange}

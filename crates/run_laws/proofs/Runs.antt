@@ -9,7 +9,8 @@ use lib.ListN.{length}
 use Rattle.lamp_line.specs.declared.WorldState.{WorldState}
 use Rattle.lamp_line.specs.declared.Ending.{Ending}
 use Rattle.lamp_line.specs.Tables.{Tables, Line, lamp_column, column, line_of}
-use Rattle.lamp_line.specs.Run.{Pair, pair, Move, ends, stays, passes, Walk, ended, arrived, Run, ran}
+use Rattle.lamp_line.specs.declared.Pair.{Pair}
+use Rattle.lamp_line.specs.Run.{pair, Move, ends, stays, passes, Walk, ended, arrived, Run, ran}
 use Rattle.lamp_line.specs.Run.{act, walk, lamp_walk, along, run}
 use Rattle.run_laws.proofs.Walks.{counts_at_most_one, walk_after, walk_ends, walk_stays, walk_passes}
 

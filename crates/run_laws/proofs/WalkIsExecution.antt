@@ -3,7 +3,8 @@
 use Prim.Native.Nat.{◌*◌}
 use Rattle.lamp_line.specs.Tables.{Tables, Line, column}
 use Rattle.lamp_line.specs.inner.WellFormed.{WellFormed}
-use Rattle.lamp_line.specs.Run.{Pair, Walk, lamp_walk}
+use Rattle.lamp_line.specs.declared.Pair.{Pair}
+use Rattle.lamp_line.specs.Run.{Walk, lamp_walk}
 use Rattle.lamp_line.specs.WalkMeaning.{WalkSays}
 use Rattle.lamp_line.specs.WalkMeaning as says
 use Rattle.run_laws.specs.inner.Pairs.{InRange}

@@ -16,7 +16,8 @@ use Rattle.lamp_line.specs.declared.Ending.{Ending}
 use Rattle.lamp_line.specs.declared.Ending.TheVariants.{Goal, Failure}
 use Rattle.lamp_line.specs.Tables.{Tables, Line, final, moves_on, column, passed, kinds_of_ends, line_of}
 use Rattle.lamp_line.specs.inner.WellFormed.{WellFormed}
-use Rattle.lamp_line.specs.Run.{Pair, Move, ends, stays, passes, Walk, ended, arrived, is_final, judged, act, own_steps, walk}
+use Rattle.lamp_line.specs.declared.Pair.{Pair}
+use Rattle.lamp_line.specs.Run.{Move, ends, stays, passes, Walk, ended, arrived, is_final, judged, act, own_steps, walk}
 use Rattle.run_laws.specs.inner.Pairs.{InRange}
 use Rattle.run_laws.proofs.Steps.{step_in_range, step_passes}
 use Rattle.run_laws.proofs.Actions.{StepAt, ExecutionAt, EndsAt, MoveMeans, act_final, act_means}

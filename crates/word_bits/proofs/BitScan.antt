@@ -1,5 +1,5 @@
 -- Going through the bits of a word that are set, from the lowest on: `rest` is the word without the bits below w.
-use mathlib.Core.Path.{◌≡◌, refl, sym, ◌∙◌}
+use mathlib.Core.Path.{◌≡◌, sym, ◌∙◌}
 use mathlib.Core.Bool.{true, false, false≢true}
 use Prim.Native.Nat.{ℕ, ◌+◌, ◌≤◌, ◌<◌}
 use native.Mathlib.Decide.{dec_lt, ℕ_discrete}
@@ -11,9 +11,6 @@ use Rattle.word_bits.proofs.WordBits.{none_in_zero}
 pub record Scanning (word rest w : ℕ) : Type 0 where
   pub above : (k : ℕ) → w ≤ k → has_bit rest k ≡ has_bit word k
   pub below : (k : ℕ) → k < w → has_bit rest k ≡ false
-
-pub scan_start : {word : ℕ} → Scanning word word 0
-scan_start = record { above = λ k w≤. refl; below = λ k k<. absurd (omega arith) }
 
 module _ {word rest w : ℕ} (scan : Scanning word rest w) where
   -- Nothing is left: no bit from w on is set.

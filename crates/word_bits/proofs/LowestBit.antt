@@ -121,6 +121,11 @@ lowest_removed {word} fits some =
       lower = omega (arith, and_le_r word (word - 1));
     }
 
+-- A word is below the power of 2 that it is itself the exponent of.
+below_power : (word : ℕ) → word < 2 ^ word
+below_power zero = omega arith
+below_power (suc word) = omega (arith, pow-suc 2 word, below_power word)
+
 -- A word that is not 0 has a bit set.
-pub some_bit : {word : ℕ} → word < 2 ^ 64 → word ≢ 0 → (i : ℕ) × (has_bit word i ≡ true)
-some_bit {word} fits other = (count_trailing_zeros 64 word, (lowest fits (omega arith)).is_set)
+pub some_bit : {word : ℕ} → word ≢ 0 → (i : ℕ) × (has_bit word i ≡ true)
+some_bit {word} other = (count_trailing_zeros word word, (lowest_of word word (omega arith) (below_power word)).is_set)

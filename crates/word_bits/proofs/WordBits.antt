@@ -41,10 +41,6 @@ power_other k j n = go (dec_lt j k)
 pub shifted_one : (k : ℕ) → k < 64 → 1 * 2 ^ k % 2 ^ 64 ≡ 2 ^ k
 shifted_one k h = rw (one-mul (2 ^ k)) (mod-eq_of_lt (pow-lt h))
 
--- So it is not zero.
-pub shifted_one_positive : (k : ℕ) → k < 64 → 0 < 1 * 2 ^ k % 2 ^ 64
-shifted_one_positive k h = rw (shifted_one k h) (pow_pos k)
-
 or_set : (a k : ℕ) → k < 64 → bit_or a (1 * 2 ^ k % 2 ^ 64) / 2 ^ k % 2 ≡ 1
 or_set a k h = rw (shifted_one k h, or_bit a (2 ^ k) k, power_same k) (omega arith)
 

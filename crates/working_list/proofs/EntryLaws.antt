@@ -16,7 +16,7 @@ use Rattle.search_laws.specs.inner.Entries.{Entry, entry, entry_at, node, start,
 use Rattle.search_laws.proofs.Grown.{grown_length, grown_new}
 use Rattle.check_laws.specs.inner.Search.{line_start, line_lamps}
 use Rattle.working_list.specs.declared.Placed.{Placed}
-use Rattle.working_list.specs.inner.Placing.{packed, unpacked, Packable, placed_pair, placed_entry, entries_from, entries, MemberOf}
+use Rattle.working_list.specs.inner.Placing.{packed, unpacked, Packable, placed_entry, entries_from, entries, MemberOf}
 
 -- The bit of a truth value gives the value back.
 truth_back : (b : Bool) (n : ℕ) → n ≡ cond b 1 0 → eqb n 1 ≡ b
@@ -25,11 +25,11 @@ truth_back false n e = ne_eqb n 1 (λ f. omega arith)
 
 -- The numbers lie side by side in the word.
 module _ (p : Placed) (fits : Packable p) where
-  state_back : packed p / 64 % 128 ≡ p.state.0
+  state_back : packed p / 64 % 128 ≡ p.pair.state.0
   unfolding packed
   state_back = omega (arith, fits)
 
-  world_back : packed p % 64 ≡ p.world.0
+  world_back : packed p % 64 ≡ p.pair.world.0
   unfolding packed
   world_back = omega (arith, fits)
 
@@ -137,10 +137,10 @@ module _ (worlds : ℕ) where
   -- An entry's node is the number of its word's pair.
   pub entries_node :
       (list : List ℕ) (n i : ℕ) → i < n → n ≤ length list →
-      node (entries worlds (take n list)) i ≡ pair_number worlds (placed_pair (unpacked (get_or list i 0)))
+      node (entries worlds (take n list)) i ≡ pair_number worlds (unpacked (get_or list i 0)).pair
   entries_node list n i l h =
       ap (λ (v : Entry). v.node) (entry_placed (take n list) i (omega (arith, length-take-le n list h)))
-      ∙ ap (λ (w : ℕ). pair_number worlds (placed_pair (unpacked w))) (get_or-take n list i 0 l)
+      ∙ ap (λ (w : ℕ). pair_number worlds (unpacked w).pair) (get_or-take n list i 0 l)
 
   -- An entry opens a group if its word says so.
   pub entries_opens :

@@ -58,6 +58,9 @@ module _ {list : List ℕ} {count from to : ℕ} (at : GroupSoFar list count fro
         }
 
   -- There is no next pair: the group ends with the list.
-  pub ends_last : count ≤ to → (worlds : ℕ) → to ≡ group_end (entries worlds (take count list)) from
+  pub ends_last : count ≤ to → (worlds : ℕ) → count ≡ group_end (entries worlds (take count list)) from
   unfolding end_from
-  ends_last past worlds = let none : count - to ≡ 0 = omega arith in sym (at.rest worlds ∙ rw none)
+  ends_last past worlds =
+      let none : count - to ≡ 0 = omega arith in
+      let last : count ≡ to = omega (arith, at.high) in
+      last ∙ sym (at.rest worlds ∙ rw none)

@@ -1,6 +1,6 @@
 -- The loop that goes from a member back to the start and writes the lamps of the line that is tried from that member, from the last to the
 -- first.
-use mathlib.Core.Path.{◌≡◌, refl, sym, ap, ◌∙◌}
+use mathlib.Core.Path.{◌≡◌, sym, ap, ◌∙◌}
 use mathlib.Core.List.{List, ◌++◌}
 use Prim.Native.Nat.{ℕ, zero, suc, ◌+◌, ◌-◌, ◌≤◌, ◌<◌}
 use native.Mathlib.Decide.{dec_lt}
@@ -8,14 +8,13 @@ use native.Mathlib.Numerals.{add-one}
 use native.Mathlib.Omega.{arith}
 use lib.ListN.{length, get_or, set, drop, length-set}
 use lib.Seq.{drop-cons, get_or-set_same, drop-set-lt}
-use Rattle.lamp_line.specs.declared.WorldState.{WorldState}
 use Rattle.search_laws.specs.inner.Lists.{◌▸◌}
 use Rattle.search_laws.specs.inner.Entries.{Entry}
 use Rattle.search_laws.proofs.Graph.{snoc_append, snoc_length}
 use Rattle.check_laws.specs.inner.Search.{line_start, line_lamps}
-use Rattle.check_laws.proofs.TriedLines.{empty_line_start, empty_line_lamps, lamp_line_start, lamp_line_lamps}
+use Rattle.check_laws.proofs.TriedLines.{empty_line_lamps, lamp_line_start, lamp_line_lamps}
 use Rattle.working_list.specs.declared.Placed.{Placed}
-use Rattle.working_list.specs.inner.Placing.{unpacked, entries, MemberOf, Chained, Written}
+use Rattle.working_list.specs.inner.Placing.{unpacked, entries, MemberOf, Chained}
 use Rattle.working_list.proofs.EntryLaws.{start_before, lamps_before}
 
 -- A lamp is written just before those that are written already.
@@ -112,23 +111,6 @@ pub record Writing (list line₀ : List ℕ) (member kind lamps : ℕ) (line : L
       (worlds : ℕ) →
       line_lamps (entries worlds list) member kind ++ drop lamps line₀ ≡ line_lamps (entries worlds list) from lamp ++ drop at line
 
--- Before the first lamp is written the whole line is left.
-pub writing_starts :
-    {list line : List ℕ} {member kind lamps : ℕ} → Chained list → MemberOf (length list) member kind → length list ≤ 4160 →
-    lamps ≤ length line → ((worlds : ℕ) → lamps ≡ length (line_lamps (entries worlds list) member kind)) →
-    Writing list line member kind lamps line member kind lamps
-writing_starts chained member_of short room left =
-    record {
-      chained = chained;
-      short = short;
-      member_of = member_of;
-      left = left;
-      room = room;
-      same_length = refl;
-      same_start = λ worlds. refl;
-      owed = λ worlds. refl;
-    }
-
 module _
     {list line₀ line : List ℕ} {member kind lamps from lamp at : ℕ} (writing : Writing list line₀ member kind lamps line from lamp at) where
   -- A lamp is still to be written.
@@ -167,19 +149,3 @@ module _
               ∙ stored (line_lamps (entries worlds list) q.member q.kind) line (at - 1) lamp
               (omega (arith, writing.room, some_left));
         })
-
-  -- No lamp is left, so the member is the line's start.
-  module _ (none : lamp ≡ 0) where
-    -- It is a small number.
-    pub start_small : from < 64
-    start_small = writing.member_of.a_start none
-
-    -- The whole line is written.
-    pub all_written : {r : WorldState} → r.0 ≡ from → (worlds : ℕ) → Written (entries worlds list) member kind lamps line₀ r line
-    all_written is worlds =
-        let empty = empty_line_lamps (entries worlds list) from lamp none in
-        let at_front : at ≡ 0 = writing.left worlds ∙ ap length empty in
-        record {
-          start_is = is ∙ sym (empty_line_start (entries worlds list) from lamp none) ∙ writing.same_start worlds;
-          line_is = sym (writing.owed worlds ∙ ap (λ (m : List ℕ). m ++ drop at line) empty ∙ ap (λ (i : ℕ). drop i line) at_front);
-        }

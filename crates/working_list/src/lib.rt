@@ -4,7 +4,7 @@
 // the search has made.
 #![tactic(auto)]
 
-use lamp_line::{ProgramState, WorldState};
+use lamp_line::Pair;
 
 pub mod line;
 pub mod list;
@@ -14,8 +14,7 @@ pub mod list;
 // pair is the first of its group (02, (f)).
 #[derive(Clone, Copy)]
 pub struct Placed {
-    pub state: ProgramState,
-    pub world: WorldState,
+    pub pair: Pair,
     pub member: usize,
     pub kind: u8,
     pub opens: bool,

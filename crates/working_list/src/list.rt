@@ -4,15 +4,14 @@ ghost use Rattle.search_laws.specs.inner.Entries.{group_end};
 ghost use Rattle.working_list.specs.inner.Placing.{packed, unpacked, Packable, entries};
 
 use crate::Placed;
-use lamp_line::{ProgramState, WorldState};
+use lamp_line::{Pair, ProgramState, WorldState};
 
 // The word of a placed pair.
 pub fn pack(placed: Placed) -> u32
     requires { Packable placed }
     ensures { result ≡ packed placed }
 {
-    let state = placed.state;
-    let world = placed.world;
+    let Pair { state, world } = placed.pair;
     let opens = placed.opens as usize;
     (world.row(1)
         + 64 * (state.row(1)
@@ -24,8 +23,10 @@ pub fn unpack(word: u32) -> Placed
     ensures { result ≡ unpacked word }
 {
     Placed {
-        state: ProgramState((word / 64 % 128) as u8),
-        world: WorldState((word % 64) as u8),
+        pair: Pair {
+            state: ProgramState((word / 64 % 128) as u8),
+            world: WorldState((word % 64) as u8),
+        },
         member: (word / 8192 % 8192) as usize,
         kind: (word / 67108864 % 16) as u8,
         opens: word / 1073741824 == 1,
@@ -37,13 +38,10 @@ pub fn group_end(list: &[u32], from: usize, count: usize) -> usize
     requires { (from < count) × (count ≤ length list.now) × (count ≤ 4160) }
     ensures { (worlds : ℕ) → result ≡ group_end (entries worlds (take count list.now)) from }
 {
-    let mut to = from + 1;
-    while to < count {
-        let pair = unpack(list[to]);
-        if pair.opens {
+    for to in from + 1..count {
+        if unpack(list[to]).opens {
             return to;
         }
-        to += 1;
     }
-    to
+    count
 }

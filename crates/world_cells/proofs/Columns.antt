@@ -1,13 +1,8 @@
 -- The columns that a rule matches lie together, and so do the cells of a row, which are those of an action and a world state.
-use mathlib.Core.Bool.{true, false, true≢false}
-use mathlib.Core.Logic.{◌⊎◌, inl, inr, ◌≢◌}
-use mathlib.Core.Path.{◌≡◌, sym, ap, ◌∙◌}
-use Prim.Native.Nat.{ℕ, suc, ◌+◌, ◌*◌, ◌/◌, ◌%◌, ◌≤◌, ◌<◌}
-use native.Mathlib.Decide.{dec_lt, ℕ_discrete}
-use native.Mathlib.Nat.{suc-mul, mul-le-mul_right}
-use native.Mathlib.Omega.{arith}
-use borrow.Author.Tests.{ltb-false, leb-true, leb-false, eqb-true, eqb-false, le-leb, lt-leb, ne_eqb}
-use lib.Arith.{digits_div, digits_mod, digits_lt}
+use Rattle.std.proofs.Common.{true, false, true≢false, ◌⊎◌, inl, inr, ◌≢◌, ◌≡◌, sym, ap, ◌∙◌, ℕ, suc, ◌+◌, ◌*◌, ◌/◌, ◌%◌, ◌≤◌, ◌<◌, suc-mul, mul-le-mul_right, arith, ltb-false, leb-true, leb-false, eqb-true, le-leb, ne_eqb}
+use Rattle.std.proofs.Math.Decide.{dec_lt, ℕ_discrete}
+use borrow.Author.Tests.{eqb-false, lt-leb}
+use Rattle.std.proofs.Math.Arith.{digits_div, digits_mod, digits_lt}
 use Rattle.job_layout.specs.Layout.{width}
 use Rattle.job_layout.specs.declared.Sizes.{Sizes}
 use Rattle.fluent_rules.specs.CellRules.{column_matches}

@@ -1,4 +1,3 @@
-pub mod CellWrites
 pub mod Columns
 pub mod RuleApplied
 pub mod RulesApplied

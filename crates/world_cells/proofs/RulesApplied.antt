@@ -1,14 +1,6 @@
 -- The cells of a world state, rule by rule from the first to the last.
-use mathlib.Core.Bool.{Bool, true, false, cond, and-false, true≢false, ◌&&◌}
-use mathlib.Core.List.{List, [], ◌∷◌}
-use mathlib.Core.Logic.{◌≢◌}
-use mathlib.Core.Path.{◌≡◌, refl, sym, ap, ◌∙◌}
-use Prim.Native.Nat.{ℕ, suc, ◌+◌, ◌-◌, ◌≤◌, ◌<◌}
-use native.Mathlib.Numerals.{add-one}
-use native.Mathlib.Omega.{arith}
-use borrow.Author.Tests.{ne_eqb}
-use lib.Dec.{eqb}
-use lib.ListN.{length, get_or}
+use Rattle.std.proofs.Common.{Bool, true, false, cond, true≢false, ◌&&◌, List, [], ◌∷◌, ◌≢◌, ◌≡◌, refl, sym, ap, ◌∙◌, ℕ, suc, ◌+◌, ◌-◌, ◌≤◌, ◌<◌, add-one, arith, ne_eqb, eqb, length, get_or}
+use Rattle.std.proofs.Math.Bool.{and-false}
 use Rattle.lamp_line.specs.Refusals.{some_below}
 use Rattle.lamp_line.specs.Tables.{world_state, Outcome}
 use Rattle.lamp_line.proofs.Scan.{none_at}
@@ -20,8 +12,11 @@ use Rattle.fluent_rules.specs.Fluents.{values_in}
 use Rattle.rules_file.specs.RulesFile.{value_counts, rule_count, rule_at, rules_from, rules_of}
 use Rattle.rules_file.specs.RulesRefusal.{rules_wrong}
 use Rattle.rules_file.proofs.RulesTested.{rules_right, rule_right}
-use Rattle.world_cells.specs.inner.CellsWritten.{cell_at, undecided, cell_number, OthersKept, Applied, NotLegalYet, WorldFilled}
-use Rattle.world_cells.proofs.CellWrites.{same_undecided}
+use Rattle.world_cells.specs.inner.CellsWritten.{cell_at, undecided, cell_number, OthersKept, Applied, WorldFilled}
+
+-- Cells with the same bytes are both undecided, or neither is.
+same_undecided : (part after : List ℕ) (i : ℕ) → cell_at after i ≡ cell_at part i → undecided after i ≡ undecided part i
+same_undecided part after i e = ap (λ cell. eqb (get_or cell 1 0) 255) e
 
 module _ (s : List ℕ) (n : Sizes) (world : ℕ) where
   -- The definition's cell.
@@ -46,17 +41,6 @@ module _ (s : List ℕ) (n : Sizes) (world : ℕ) where
     pub cells : (a c : ℕ) → a < n.actions → c < width n → CellSoFar i part a c
 
 module _ {s : List ℕ} {n : Sizes} {world : ℕ} {before : List ℕ} where
-  -- None has, and no cell is legal.
-  pub applied_start : NotLegalYet n world before → AppliedTo s n world 0 before before
-  applied_start none_legal =
-      let whole : rule_count s - 0 ≡ rule_count s = omega arith in
-      record {
-        within = omega arith;
-        long = refl;
-        others = λ a w c a< w< c< other. refl;
-        cells = λ a c a< c<. left_open (none_legal a c a< c<) (rw whole);
-      }
-
   -- One rule more.
   pub applied_more : {i : ℕ} {part after : List ℕ} → rules_wrong s n ≡ false → AppliedTo s n world i before part → i < rule_count s →
       Applied s n i world part after → AppliedTo s n world (i + 1) before after

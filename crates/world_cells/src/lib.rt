@@ -4,25 +4,22 @@
 // written: those that are not legal yet, which their result 255 shows. Once no such cell is left, later rules write nothing; every 64
 // rules that is looked at.
 //
-// These functions are for the generator in the crate above and not for users: they ask for a rules file to which refusal 22 does not apply, and
-// for a part of the right length.
+// These functions are for the generator in the crate above and not for users: they ask for a part of the right length.
 #![tactic(auto)]
 
-ghost use Rattle.std.specs.Prelude.{◌≡◌, false, cond, ◌+◌, ◌*◌, ◌≤◌, ◌<◌, length};
+ghost use Rattle.std.specs.Prelude.{◌≡◌, cond, ◌+◌, ◌*◌, ◌≤◌, ◌<◌, length};
 ghost use Rattle.lamp_line.specs.Refusals.{some_below};
 ghost use Rattle.job_layout.specs.Layout.{width};
 ghost use Rattle.fluent_rules.specs.CellsPart.{part_length};
 ghost use Rattle.fluent_rules.specs.Fluents.{values_in};
 ghost use Rattle.rules_file.specs.RulesFile.{value_counts, rule_count};
-ghost use Rattle.rules_file.specs.RulesRefusal.{rules_wrong};
 ghost use Rattle.world_cells.specs.inner.CellsWritten.{undecided, with_cell, row_start, cell_number, first_column, columns_end};
 ghost use Rattle.world_cells.specs.inner.CellsWritten.{Claimed, Applied, NotLegalYet, WorldFilled};
 
 use job_layout::Sizes;
-use job_layout::places::width;
 use lamp_line::WorldState;
 use rule_worlds::{new_world, wants, world_values};
-use rules_file::{fluent_bytes, rule_count, rule_place};
+use rules_file::Rules;
 
 // Writes the two bytes of cell i.
 pub fn write_cell(part: &mut [u8], i: usize, next: WorldState, sensed: u8)
@@ -48,10 +45,8 @@ fn claim_cells(part: &mut [u8], first: usize, end: usize, next: WorldState, sens
     requires { (first ≤ end) × (2 * end ≤ length part.old) }
     ensures { Claimed part.old part.new first end next.0 sensed }
 {
-    let mut i = first;
-    while i < end {
+    for i in first..end {
         claim_cell(part, i, next, sensed);
-        i += 1;
     }
 }
 
@@ -59,7 +54,7 @@ fn claim_cells(part: &mut [u8], first: usize, end: usize, next: WorldState, sens
 fn row_start(sizes: Sizes, action: u8, world: WorldState) -> usize
     ensures { result ≡ row_start sizes action world.0 }
 {
-    (action as usize * sizes.worlds as usize + world.row(1)) * width(sizes)
+    (action as usize * sizes.worlds as usize + world.row(1)) * sizes.width()
 }
 
 // The columns that a rule with this column matches are those from `first_column` up to and without `columns_end`.
@@ -79,36 +74,26 @@ fn columns_end(sizes: Sizes, column: u8) -> usize
     ensures { result ≡ columns_end sizes column }
 {
     if 254 <= column {
-        return width(sizes);
+        return sizes.width();
     }
     column as usize + 1
 }
 
 // Lets rule i write its cells in a world state in which the fluents have these values.
-fn apply_rule(
-    rules: &[u8],
-    sizes: Sizes,
-    i: usize,
-    world: WorldState,
-    values: &[u8],
-    part: &mut [u8],
-)
-    requires { (rules_wrong rules.now sizes ≡ false) × (length part.old ≡ part_length sizes) × (i < rule_count rules.now) × (world.0 < sizes.worlds)
-        × (values.now ≡ values_in (value_counts rules.now) world.0) }
-    ensures { Applied rules.now sizes i world.0 part.old part.new }
+fn apply_rule(rules: &Rules, i: usize, world: WorldState, values: &[u8], part: &mut [u8])
+    requires { (length part.old ≡ part_length rules.now.sizes) × (i < rule_count rules.now.bytes.now) × (world.0 < rules.now.sizes.worlds)
+        × (values.now ≡ values_in (value_counts rules.now.bytes.now) world.0) }
+    ensures { Applied rules.now.bytes.now rules.now.sizes i world.0 part.old part.new }
 {
-    let at = rule_place(rules, i);
-    let wanted = fluent_bytes(rules, at + 3);
-    if !wants(wanted, values) {
+    let rule = rules.rule(i);
+    if !wants(rule.wanted, values) {
         return;
     }
-    let new = fluent_bytes(rules, at + 3 + wanted.len());
-    let next = new_world(fluent_bytes(rules, 1), new, values);
-    let row = row_start(sizes, rules[at], world);
-    let column = rules[at + 2];
-    let first = row + first_column(sizes, column);
-    let end = row + columns_end(sizes, column);
-    claim_cells(part, first, end, next, rules[at + 1]);
+    let next = new_world(rules.counts(), rule.new, values);
+    let row = row_start(rules.sizes, rule.action, world);
+    let first = row + first_column(rules.sizes, rule.column);
+    let end = row + columns_end(rules.sizes, rule.column);
+    claim_cells(part, first, end, next, rule.result);
 }
 
 // Some of the `count` cells from `first` on is written by no rule.
@@ -116,12 +101,10 @@ fn any_undecided(part: &[u8], first: usize, count: usize) -> bool
     requires { 2 * (first + count) ≤ length part.now }
     ensures { result ≡ some_below count (λ c. undecided part.now (first + c)) }
 {
-    let mut c = 0;
-    while c < count {
+    for c in 0..count {
         if part[2 * (first + c) + 1] == 255 {
             return true;
         }
-        c += 1;
     }
     false
 }
@@ -131,35 +114,26 @@ fn any_left(part: &[u8], sizes: Sizes, world: WorldState) -> bool
     requires { (length part.now ≡ part_length sizes) × (world.0 < sizes.worlds) }
     ensures { result ≡ some_below sizes.actions (λ a. some_below (width sizes) (λ c. undecided part.now (cell_number sizes a world.0 c))) }
 {
-    let actions = sizes.actions;
-    let mut a = 0;
-    while a < actions {
-        if any_undecided(part, row_start(sizes, a, world), width(sizes)) {
+    for a in 0..sizes.actions {
+        if any_undecided(part, row_start(sizes, a, world), sizes.width()) {
             return true;
         }
-        a += 1;
     }
     false
 }
 
 // Fills the cells of a world state, none of which is legal before.
-pub fn fill_world(rules: &[u8], sizes: Sizes, world: WorldState, part: &mut [u8])
-    requires { (rules_wrong rules.now sizes ≡ false) × (length part.old ≡ part_length sizes) × (world.0 < sizes.worlds) × NotLegalYet sizes world.0 part.old }
-    ensures { WorldFilled rules.now sizes world.0 part.old part.new }
+pub fn fill_world(rules: &Rules, world: WorldState, part: &mut [u8])
+    requires { (length part.old ≡ part_length rules.now.sizes) × (world.0 < rules.now.sizes.worlds) × NotLegalYet rules.now.sizes world.0 part.old }
+    ensures { WorldFilled rules.now.bytes.now rules.now.sizes world.0 part.old part.new }
 {
-    let counts = fluent_bytes(rules, 1);
-    let m = counts.len();
+    let counts = rules.counts();
     let mut values = [0u8; 6];
-    world_values(counts, sizes.worlds, world, &mut values);
-    let count = rule_count(rules);
-    let mut i = 0;
-    while i < count {
-        if i % 64 == 63 {
-            if !any_left(part, sizes, world) {
-                return;
-            }
+    world_values(counts, rules.sizes.worlds, world, &mut values);
+    for i in 0..rules.count() {
+        if i % 64 == 63 && !any_left(part, rules.sizes, world) {
+            return;
         }
-        apply_rule(rules, sizes, i, world, &values[..m], part);
-        i += 1;
+        apply_rule(rules, i, world, &values[..counts.len()], part);
     }
 }

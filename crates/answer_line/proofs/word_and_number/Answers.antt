@@ -1,6 +1,7 @@
-use Rattle.answer_line.proofs.Writing.{wrote_then}
+use Rattle.std.proofs.Common.{rules}
+use Rattle.answer_line.proofs.Writing.{appended_then, finished}
 use Rattle.answer_line.proofs.word_and_number.Goals as goal
 
 pub returns : goal.returns
 returns c =
-    wrote_then c.put_word-after_word.ensures (wrote_then c.put_number-after_number.ensures.wrote c.put_byte.ensures)
+    finished (appended_then c.word.ensures (appended_then c.number.ensures.appended c.byte.ensures)) (search rules)

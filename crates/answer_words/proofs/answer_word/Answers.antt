@@ -1,6 +1,5 @@
 use Rattle.answer_words.specs.AnswerWords.{answer_word}
 use mathlib.Core.Path.{refl}
-use Rattle.answer_words.specs.AnswerWords.{answer_word}
 use Rattle.answer_words.proofs.answer_word.Goals as goal
 
 pub returns : goal.returns

@@ -4,4 +4,5 @@ use Rattle.cabinet.proofs.branch.Goals as goal
 -- A result that is not below R has no branch in the tables; below R the plan's row is read.
 pub returns-then-job-sensed : goal.returns-then-job-sensed
 returns-then-job-sensed c =
-    no_branch_outside c.args.file.now c.args.job c.requires.0 c.args.state c.args.sensed c.if-job-sensed.true
+    let job = c.args.job.now in
+    no_branch_outside job.file.now job.head job.opened c.args.state c.args.sensed c.if-job-sensed.true

@@ -1,34 +1,30 @@
-use Rattle.job_file.specs.Reading.{Opened}
-use mathlib.Core.Path.{sym, ap, ◌∙◌}
-use native.Mathlib.Omega.{arith}
-use Rattle.job_file.specs.Reading.{Opened}
-use Rattle.job_file.proofs.Opening.{reading_refused}
+use Rattle.std.proofs.Common.{sym, ap, ◌∙◌, arith, ℕ, Some, Ok}
+use Rattle.std.proofs.lemmas.Result.{err_from_is_err_and}
 use Rattle.job_tables.proofs.Ranges.{states_are}
-use Rattle.cabinet.specs.declared.ActionAnswer.TheVariants.{Action}
 use Rattle.cabinet.proofs.Answering.{action_file_refused, action_above, action_ended, action_acts}
 use Rattle.cabinet.proofs.next_action.Goals as goal
 
-pub returns-in_default : goal.returns-in_default
-returns-in_default c =
-    let a = c.args in
-    action_file_refused a.file.now
-    (reading_refused a.file.now _ _ _ c.read_job-reading.ensures c.in_default.is c.refusal_number.ensures)
-    a.state
+pub returns-in_err-job : goal.returns-in_err-job
+returns-in_err-job c =
+    let p = err_from_is_err_and c.from_residual.result c.from_residual.ensures.1 in
+    rw (p.1, p.2) (action_file_refused c.args.file.now c.in_err-job.ensures.refused c.args.state)
 
 pub returns-then-job-state : goal.returns-then-job-state
 returns-then-job-state c =
-    let opened : Opened c.args.file.now c.in-Job.job = sym c.read_job-reading.ensures ∙ c.in-Job.is in
-    sym (action_above c.args.file.now opened c.args.state (omega (arith, states_are c.args.file.now c.in-Job.job opened, c.if-job-state.true)))
+    let job = c.in_ok-job.job in
+    let states = states_are job.file.now job.head job.opened in
+    rw (← c.in_ok-job.ensures.opened) (sym (action_above job.file.now job.opened c.args.state (omega arith)))
 
 pub returns-then-state-job : goal.returns-then-state-job
 returns-then-state-job c =
-    let opened : Opened c.args.file.now c.in-Job.job = sym c.read_job-reading.ensures ∙ c.in-Job.is in
-    sym (action_ended c.args.file.now opened c.args.state (c.if-state-job.true ∙ states_are c.args.file.now c.in-Job.job opened))
+    let job = c.in_ok-job.job in
+    let states = states_are job.file.now job.head job.opened in
+    rw (← c.in_ok-job.ensures.opened) (sym (action_ended job.file.now job.opened c.args.state (omega arith)))
 
 pub returns : goal.returns
 returns c =
-    let opened : Opened c.args.file.now c.in-Job.job = sym c.read_job-reading.ensures ∙ c.in-Job.is in
-    ap Action c.plan_action.ensures
-    ∙ sym
-    (action_acts c.args.file.now opened c.args.state
-    (omega (arith, states_are c.args.file.now c.in-Job.job opened, c.if-job-state.false, c.if-state-job.false)))
+    let job = c.in_ok-job.job in
+    let states = states_are job.file.now job.head job.opened in
+    rw (← c.in_ok-job.ensures.opened)
+    (ap (λ (a : ℕ). Ok (Some a)) c.action.ensures
+    ∙ sym (action_acts job.file.now job.opened c.args.state (omega arith)))

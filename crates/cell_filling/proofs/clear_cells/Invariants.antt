@@ -1,14 +1,5 @@
-use Rattle.std.proofs.Common.{◌-◌}
-use Prim.Native.Nat.{◌-◌}
-use Rattle.cell_filling.proofs.WholePart.{ClearedTo}
-use Prim.Native.Nat.{◌-◌}
 use Rattle.cell_filling.proofs.WholePart.{ClearedTo}
 use Rattle.cell_filling.proofs.clear_cells.Given as goal
 
 abbrev pub invariant-loop-i : goal.invariant-loop-i
-invariant-loop-i l =
-    ClearedTo l.initial.part l.i l.part
-
-abbrev pub decreases-loop-i : goal.decreases-loop-i
-decreases-loop-i l =
-    l.cells - l.i
+invariant-loop-i l = ClearedTo l.initial.part l.i l.part

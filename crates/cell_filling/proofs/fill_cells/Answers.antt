@@ -1,5 +1,4 @@
-use mathlib.Core.Path.{refl, sym, ◌∙◌}
-use native.Mathlib.Omega.{arith}
+use Rattle.std.proofs.Common.{refl, sym, ◌∙◌, arith}
 use Rattle.cell_filling.proofs.FillTests.{rules_refused, size_refused, not_refused}
 use Rattle.cell_filling.proofs.fill_cells.Goals as goal
 

@@ -1,10 +1,10 @@
-use native.Mathlib.Omega.{arith}
+use Rattle.std.proofs.Common.{arith}
 use Rattle.cell_filling.proofs.WholePart.{part_start, part_more, part_done}
 use Rattle.cell_filling.proofs.fill_part.Goals as goal
 
 pub loop-w-init : goal.loop-w-init
 loop-w-init c =
-    part_start c.requires.1 c.clear_cells.ensures
+    part_start c.requires c.clear_cells.ensures
 
 pub loop-w-preserved : goal.loop-w-preserved
 loop-w-preserved c =

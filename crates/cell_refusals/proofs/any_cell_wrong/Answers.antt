@@ -1,16 +1,12 @@
-use native.Mathlib.Omega.{arith}
-use mathlib.Core.Path.{sym, ◌∙◌}
-use Rattle.lamp_line.proofs.Scan.{none_yet_start, none_yet_more, scan_finds}
+use Rattle.std.proofs.Common.{◌∙◌, rules, tests}
+use Rattle.std.proofs.lemmas.Iterator.{YieldsList-from_slice}
+use Rattle.std.proofs.lemmas.Iterator.Search.{any_from_yields_List}
+use Rattle.cell_refusals.proofs.Cells.{pair_wrong, any_pair_wrong}
 use Rattle.cell_refusals.proofs.any_cell_wrong.Goals as goal
 
-pub loop-i-init : goal.loop-i-init
-loop-i-init c =
-    none_yet_start
-
-pub returns-then-is_cell_wrong : goal.returns-then-is_cell_wrong
-returns-then-is_cell_wrong c =
-    scan_finds c.loop-i.invariant (omega arith) (sym c.is_cell_wrong.ensures ∙ c.if-is_cell_wrong.true)
-
-pub loop-i-preserved : goal.loop-i-preserved
-loop-i-preserved c =
-    none_yet_more c.loop-i.invariant (omega arith) (sym c.is_cell_wrong.ensures ∙ c.if-is_cell_wrong.false)
+pub returns : goal.returns
+returns c =
+    any_from_yields_List (pair_wrong c.args.worlds c.args.results) _ _ _ c.any.ensures.ran
+    (YieldsList-from_slice _ (c.iter.ensures.rest ∙ c.as_chunks.ensures.front))
+    (λ x b q k. search (rules, tests))
+    ∙ any_pair_wrong c.args.file.now c.args.from c.args.count c.requires c.args.worlds c.args.results

@@ -1,5 +1,4 @@
-use native.Mathlib.Omega.{arith}
-use mathlib.Core.Path.{sym, ◌∙◌}
+use Rattle.std.proofs.Common.{◌∙◌, sym, arith}
 use Rattle.lamp_line.proofs.Scan.{none_yet_start, none_yet_more, scan_finds}
 use Rattle.cell_refusals.proofs.end_wrong.Goals as goal
 

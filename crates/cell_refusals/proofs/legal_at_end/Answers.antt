@@ -1,5 +1,4 @@
-use native.Mathlib.Omega.{arith}
-use borrow.Author.Tests.{eq-eqb, ne_eqb}
+use Rattle.std.proofs.Common.{arith, eq-eqb, ne_eqb}
 use Rattle.lamp_line.proofs.Columns.{end_column_in}
 use Rattle.lamp_line.proofs.Scan.{none_yet_start, none_yet_more, scan_finds}
 use Rattle.job_layout.proofs.Bounds.{result_in}
@@ -9,14 +8,14 @@ pub loop-w-init : goal.loop-w-init
 loop-w-init c =
     none_yet_start
 
-pub bounds-file-at : goal.bounds-file-at
-bounds-file-at c =
+pub bounds-laid-at : goal.bounds-laid-at
+bounds-laid-at c =
     search (result_in, end_column_in)
 
-pub returns-then-file-at : goal.returns-then-file-at
-returns-then-file-at c =
-    scan_finds c.loop-w.invariant (omega arith) (rw (← c.next_place-at.ensures, ne_eqb _ _ c.if-file-at.true))
+pub returns-then-laid-at : goal.returns-then-laid-at
+returns-then-laid-at c =
+    scan_finds c.loop-w.invariant (omega arith) (rw (← c.next_place-at.ensures, ne_eqb _ _ c.if-laid-at.true))
 
 pub loop-w-preserved : goal.loop-w-preserved
 loop-w-preserved c =
-    none_yet_more c.loop-w.invariant (omega arith) (rw (← c.next_place-at.ensures, eq-eqb _ _ c.if-file-at.false))
+    none_yet_more c.loop-w.invariant (omega arith) (rw (← c.next_place-at.ensures, eq-eqb _ _ c.if-laid-at.false))

@@ -1,7 +1,8 @@
 -- Series of actions at one column, for the laws of fates: the result of at most n actions in a row, as one move.
 use Rattle.std.specs.Prelude.{ℕ, zero, suc}
 use Rattle.lamp_line.specs.Tables.{Tables}
-use Rattle.lamp_line.specs.Run.{Pair, Move, ends, stays, passes, act}
+use Rattle.lamp_line.specs.declared.Pair.{Pair}
+use Rattle.lamp_line.specs.Run.{Move, ends, stays, passes, act}
 
 -- A move; if it stays, then another from the pair at which it stays.
 abbrev pub next : Move → (Pair → Move) → Move

@@ -1,6 +1,4 @@
 use Rattle.job_layout.specs.FileRefusals.{length_wrong}
-use Rattle.job_layout.specs.FileRefusals.{length_wrong}
-use Rattle.job_layout.specs.FileRefusals.{length_wrong}
 use Rattle.head_refusals.proofs.length_wrong.Goals as goal
 
 pub returns : goal.returns

@@ -1,6 +1,4 @@
 use Rattle.job_layout.specs.FileRefusals.{number_wrong}
-use Rattle.job_layout.specs.FileRefusals.{number_wrong}
-use Rattle.job_layout.specs.FileRefusals.{number_wrong}
 use Rattle.head_refusals.proofs.number_wrong.Goals as goal
 
 pub returns : goal.returns
@@ -11,5 +9,5 @@ returns c =
       c.is_outside-2.ensures,
       c.is_outside.ensures,
       c.ranges_wrong.ensures,
-      c.sizes_of.ensures,
+      c.sizes.ensures,
     )

@@ -1,6 +1,4 @@
 use Rattle.job_layout.specs.FileRefusals.{ranges_wrong}
-use Rattle.job_layout.specs.FileRefusals.{ranges_wrong}
-use Rattle.job_layout.specs.FileRefusals.{ranges_wrong}
 use Rattle.head_refusals.proofs.ranges_wrong.Goals as goal
 
 pub returns : goal.returns

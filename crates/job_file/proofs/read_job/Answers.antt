@@ -20,11 +20,13 @@ pub returns-then-length_wrong : goal.returns-then-length_wrong
 returns-then-length_wrong c =
     search length_refused
 
-pub read_parts-requires : goal.read_parts-requires
-read_parts-requires c =
-    laid _ _ (sym c.number_wrong.ensures ∙ c.if-number_wrong.false)
-    (sym c.place_wrong.ensures ∙ c.if-place_wrong.false)
-    (sym c.length_wrong.ensures ∙ c.if-length_wrong.false)
+pub invariant_of-read_parts : goal.invariant_of-read_parts
+invariant_of-read_parts c =
+    record {
+      laid = laid _ _ (sym c.number_wrong.ensures ∙ c.if-number_wrong.false)
+          (sym c.place_wrong.ensures ∙ c.if-place_wrong.false)
+          (sym c.length_wrong.ensures ∙ c.if-length_wrong.false);
+    }
 
 pub returns : goal.returns
 returns c =

@@ -1,15 +1,9 @@
-use Rattle.std.proofs.Common.{◌≡◌, ℕ, ◌+◌, ◌*◌, ◌≤◌}
-use Rattle.lamp_line.specs.Run.{pair}
-use Rattle.run_laws.specs.inner.Pairs.{pair_number}
-use native.Mathlib.Omega.{arith}
-use mathlib.Core.Path.{◌≡◌}
-use Prim.Native.Nat.{ℕ, ◌+◌, ◌*◌, ◌≤◌}
+use Rattle.std.proofs.Common.{◌≡◌, ℕ, ◌+◌, ◌*◌, ◌≤◌, arith}
 use Rattle.lamp_line.proofs.Products.{product_le}
-use Rattle.lamp_line.specs.Run.{Pair, pair}
+use Rattle.lamp_line.specs.declared.Pair.{Pair}
 use Rattle.run_laws.specs.inner.Pairs.{pair_number}
 use Rattle.lamp_fates.proofs.entry_place.Goals as goal
 
--- The place is that of the memory's definition.
 -- The number of a pair is small, and so is the first place of a column, whatever the numbers of the job are.
 number_small :
     {worlds number : ℕ} (p : Pair) → number ≡ pair_number worlds p → p.state.0 ≤ 255 → p.world.0 ≤ 255 → worlds ≤ 255 →
@@ -25,10 +19,10 @@ first_small column states worlds column≤ states≤ worlds≤ =
 pub overflow_add-result : goal.overflow_add-result
 overflow_add-result c =
     let a = c.args in
-    let job = a.job in
+    let job = a.job.now.head in
     omega (
       arith,
       c.first_place.ensures,
       first_small a.column job.states job.worlds (omega arith) (omega arith) (omega arith),
-      number_small (pair a.state a.world) c.pair_number.ensures (omega arith) (omega arith) (omega arith),
+      number_small a.pair c.pair_number.ensures (omega arith) (omega arith) (omega arith),
     )

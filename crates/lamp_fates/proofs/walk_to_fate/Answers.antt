@@ -1,13 +1,10 @@
-use Rattle.std.proofs.Common.{rules, ◌<◌}
-use borrow.Author.Rules.{rules}
-use native.Mathlib.Omega.{arith}
-use Prim.Native.Nat.{◌<◌}
+use Rattle.std.proofs.Common.{rules, ◌<◌, arith}
 use Rattle.lamp_fates.proofs.WalkTurns.{leaving_starts, leaving_place, leaving_fits, leaving_on, unknown_falls}
 use Rattle.lamp_fates.proofs.WalkTurns.{walked_known, walked_circles, walked_ends, walked_passes, walked_final, next_world_within, next_small}
 use Rattle.lamp_fates.proofs.walk_to_fate.Goals as goal
 
-pub loop-job-init : goal.loop-job-init
-loop-job-init c =
+pub loop-here-init : goal.loop-here-init
+loop-here-init c =
     search leaving_starts
 
 pub offset_bounds-memory-place : goal.offset_bounds-memory-place
@@ -38,8 +35,8 @@ pub judge-requires : goal.judge-requires
 judge-requires c =
     search (rules, next_world_within)
 
-pub returns-then-to-job : goal.returns-then-to-job
-returns-then-to-job c =
+pub returns-then-next-job : goal.returns-then-next-job
+returns-then-next-job c =
     search walked_final
 
 pub overflow_cast-memory : goal.overflow_cast-memory
@@ -60,10 +57,10 @@ pub bounds-memory-place-in-Stays : goal.bounds-memory-place-in-Stays
 bounds-memory-place-in-Stays c =
     search leaving_place
 
-pub loop-job-smaller : goal.loop-job-smaller
-loop-job-smaller c =
+pub loop-here-smaller : goal.loop-here-smaller
+loop-here-smaller c =
     search unknown_falls
 
-pub loop-job-preserved : goal.loop-job-preserved
-loop-job-preserved c =
+pub loop-here-preserved : goal.loop-here-preserved
+loop-here-preserved c =
     search leaving_on

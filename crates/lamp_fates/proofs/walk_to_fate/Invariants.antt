@@ -1,14 +1,10 @@
-use Rattle.lamp_line.specs.Run.{pair}
-use Rattle.lamp_line.specs.Run.{pair}
-use Rattle.lamp_fates.proofs.WalkTurns.{LeavingLinks, unknown}
-use Rattle.lamp_line.specs.Run.{pair}
 use Rattle.lamp_fates.proofs.WalkTurns.{LeavingLinks, unknown}
 use Rattle.lamp_fates.proofs.walk_to_fate.Given as goal
 
-abbrev pub invariant-loop-job : goal.invariant-loop-job
-invariant-loop-job l =
-    LeavingLinks l.file l.job (pair l.initial.q l.initial.w) l.column l.initial.memory l.memory (pair l.q l.w)
+abbrev pub invariant-loop-here : goal.invariant-loop-here
+invariant-loop-here l =
+    LeavingLinks l.job.file.now l.job.head l.initial.here l.column l.initial.memory l.memory l.here
 
-abbrev pub decreases-loop-job : goal.decreases-loop-job
-decreases-loop-job l =
+abbrev pub decreases-loop-here : goal.decreases-loop-here
+decreases-loop-here l =
     unknown l.memory

@@ -1,7 +1,4 @@
-use Rattle.std.proofs.Common.{◌+◌, ◌<◌, length}
-use native.Mathlib.Omega.{arith}
-use Prim.Native.Nat.{◌+◌, ◌<◌}
-use lib.ListN.{length}
+use Rattle.std.proofs.Common.{◌+◌, ◌<◌, length, arith}
 use Rattle.lamp_fates.proofs.WriteTurns.{following_starts, following_place, following_ends, following_on, linked_falls}
 use Rattle.lamp_fates.proofs.write_along.Goals as goal
 
@@ -11,12 +8,12 @@ loop-column-init c =
 
 pub overflow_add-place : goal.overflow_add-place
 overflow_add-place c =
-    let place_in : c.first_place-base.result + c.loop-column.pair < length c.loop-column.memory = search following_place in
+    let place_in : c.first_place-base.result + c.loop-column.number < length c.loop-column.memory = search following_place in
     omega (arith, place_in)
 
 pub offset_bounds-memory-place : goal.offset_bounds-memory-place
 offset_bounds-memory-place c =
-    let place_in : c.first_place-base.result + c.loop-column.pair < length c.loop-column.memory = search following_place in
+    let place_in : c.first_place-base.result + c.loop-column.number < length c.loop-column.memory = search following_place in
     omega (arith, place_in)
 
 pub bounds-memory-place : goal.bounds-memory-place
@@ -25,7 +22,7 @@ bounds-memory-place c =
 
 pub offset_bounds-memory-place-in-loop-column : goal.offset_bounds-memory-place-in-loop-column
 offset_bounds-memory-place-in-loop-column c =
-    let place_in : c.first_place-base.result + c.loop-column.pair < length c.loop-column.memory = search following_place in
+    let place_in : c.first_place-base.result + c.loop-column.number < length c.loop-column.memory = search following_place in
     omega (arith, place_in)
 
 pub bounds-memory-place-in-loop-column : goal.bounds-memory-place-in-loop-column

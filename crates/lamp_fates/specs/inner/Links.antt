@@ -3,7 +3,8 @@
 use Rattle.std.specs.Prelude.{◌≡◌, ◌⊎◌, List, ℕ, ◌+◌, ◌≤◌, ◌<◌, length}
 use Rattle.lamp_line.specs.Tables.{Tables, column_count}
 use Rattle.lamp_line.specs.inner.WellFormed.{WellFormed}
-use Rattle.lamp_line.specs.Run.{Pair, stays, lamp_walk}
+use Rattle.lamp_line.specs.declared.Pair.{Pair}
+use Rattle.lamp_line.specs.Run.{stays, lamp_walk}
 use Rattle.run_laws.specs.inner.Pairs.{InRange, pair_number}
 use Rattle.fate_laws.specs.inner.Series.{series}
 use Rattle.lamp_fates.specs.inner.Memory.{fate_entry, memory_size, remembered, UnknownOrRight}

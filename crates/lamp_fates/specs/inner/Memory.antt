@@ -4,7 +4,8 @@ use Rattle.lamp_line.specs.declared.FailureKind.TheVariants.{NotLegal, NoBranch,
 use Rattle.lamp_line.specs.declared.Ending.TheVariants.{Goal, Failure}
 use Rattle.lamp_line.specs.Tables.{Tables, program_state, world_state, column_count}
 use Rattle.lamp_line.specs.Endings.{kind_number}
-use Rattle.lamp_line.specs.Run.{Pair, pair, Walk, ended, arrived, lamp_walk}
+use Rattle.lamp_line.specs.declared.Pair.{Pair}
+use Rattle.lamp_line.specs.Run.{pair, Walk, ended, arrived, lamp_walk}
 use Rattle.run_laws.specs.inner.Pairs.{InRange, pairs, pair_number}
 use Rattle.fate_laws.specs.inner.Fates.{uncounted}
 use Rattle.lamp_fates.specs.declared.Fate.{Fate}
@@ -14,7 +15,7 @@ use Rattle.lamp_fates.specs.declared.Fate.TheVariants.{Succeeds, Fails, Arrives}
 abbrev pub walk_to : Fate → Walk
 walk_to Succeeds = ended Goal 0
 walk_to (Fails kind) = ended (Failure kind) 0
-walk_to (Arrives state world) = arrived (pair state world) 0
+walk_to (Arrives p) = arrived p 0
 
 -- ---- a fate as one number
 

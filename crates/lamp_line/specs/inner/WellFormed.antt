@@ -1,7 +1,7 @@
 -- What holds for the tables of a job file that is not refused (law `well_formed` of job_file). The laws of run, check and cabinet
 -- assume it.
 use Rattle.std.specs.Prelude.{◌≡◌, true, [], ℕ, ◌≤◌, ◌<◌, length}
-use Rattle.std.proofs.Math.Option.{some}
+use Rattle.std.specs.Prelude.{Some}
 use Rattle.plans.specs.Plan.{Action, Result}
 use Rattle.lamp_line.specs.declared.ProgramState.{ProgramState}
 use Rattle.lamp_line.specs.declared.WorldState.{WorldState}
@@ -26,7 +26,7 @@ pub record Formed (t : Tables) : Type 0 where
   pub start_range : (w : WorldState) → t.start w ≡ true → w.0 < t.worlds
   pub some_start : (w : WorldState) × (t.start w ≡ true)
   pub action_range : (q : ProgramState) → q.0 < t.states → t.action q < t.actions
-  pub target_range : (q q' : ProgramState) (r : Result) → t.target q r ≡ some q' → (r < t.results) × (q'.0 ≤ t.states)
+  pub target_range : (q q' : ProgramState) (r : Result) → t.target q r ≡ Some q' → (r < t.results) × (q'.0 ≤ t.states)
 
 -- Besides, a cell has at most one outcome, so that an execution is determined.
 pub record WellFormed (t : Tables) : Type 0 where

@@ -1,19 +1,18 @@
 use Rattle.std.proofs.Common.{rules}
-use borrow.Author.Rules.{rules}
 use Rattle.job_tables.proofs.Ranges.{action_below, result_below}
 use Rattle.lamp_walk.proofs.ActionLaws.{acts_not_legal, acts_no_branch, acts_passes, acts_stays}
 use Rattle.lamp_walk.proofs.try_action.Goals as goal
 
-pub read_cell-cell-requires : goal.read_cell-cell-requires
-read_cell-cell-requires c =
+pub cell-requires : goal.cell-requires
+cell-requires c =
     search (rules, action_below)
 
 pub returns-in_default : goal.returns-in_default
 returns-in_default c =
     search acts_not_legal
 
-pub plan_target-target-requires : goal.plan_target-target-requires
-plan_target-target-requires c =
+pub target-requires : goal.target-requires
+target-requires c =
     search (rules, result_below)
 
 pub returns-in_default-target : goal.returns-in_default-target

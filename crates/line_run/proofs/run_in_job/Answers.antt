@@ -1,8 +1,6 @@
-use Rattle.std.proofs.Common.{rules}
-use borrow.Author.Rules.{rules}
-use native.Mathlib.Omega.{arith}
+use Rattle.std.proofs.Common.{arith, rules}
 use Rattle.job_tables.proofs.Ranges.{columns_few}
-use Rattle.line_run.proofs.RunLoop.{running_kinds, running_column_in, running_start, running_ends, running_at_lamp, running_passes, running_stopped, rest_shorter}
+use Rattle.line_run.proofs.RunLoop.{running_column_in, running_start, running_ends, running_at_lamp, running_passes, running_stopped, rest_shorter}
 use Rattle.line_run.proofs.run_in_job.Goals as goal
 
 pub loop-ending-init : goal.loop-ending-init
@@ -11,10 +9,10 @@ loop-ending-init c =
 
 pub column_of-column-requires : goal.column_of-column-requires
 column_of-column-requires c =
-    search (columns_few, running_kinds)
+    search columns_few
 
-pub walk_in_job-walked-requires : goal.walk_in_job-walked-requires
-walk_in_job-walked-requires c =
+pub walk_in_job-requires : goal.walk_in_job-requires
+walk_in_job-requires c =
     search (rules, running_column_in)
 
 pub returns-in-Ended : goal.returns-in-Ended
@@ -23,8 +21,8 @@ returns-in-Ended c =
 
 pub returns-then-limit-k : goal.returns-then-limit-k
 returns-then-limit-k c =
-    running_stopped c.requires.0 c.loop-ending.invariant c.walk_in_job-walked.result c.column_of-column.ensures
-    c.walk_in_job-walked.ensures c.in-Arrived.is (omega arith)
+    running_stopped c.args.job.now.opened c.loop-ending.invariant c.walk_in_job.result c.column_of-column.ensures
+    c.walk_in_job.ensures c.in-Arrived.is (omega arith)
 
 pub slice_bounds-rest-count : goal.slice_bounds-rest-count
 slice_bounds-rest-count c =

@@ -1,7 +1,7 @@
 -- For the functions and proofs of the search: a line that is tried from a member, and what each function answers on it.
-use Rattle.std.specs.Prelude.{◌≡◌, List, ◌≢◌, false, ℕ, ◌+◌, ◌≤◌, ◌<◌}
+use Rattle.std.specs.Prelude.{◌≡◌, List, ◌≢◌, false, ℕ, ◌+◌, ◌≤◌, ◌<◌, Option, None, Some, Result, Ok, Err}
 use Rattle.lamp_line.specs.Tables.{Tables, column_count}
-use Rattle.lamp_line.specs.Run.{Pair, pair}
+use Rattle.lamp_line.specs.declared.Pair.{Pair}
 use Rattle.lamp_line.specs.declared.FailureKind.{FailureKind}
 use Rattle.job_layout.specs.declared.Job.{Job}
 use Rattle.job_layout.specs.JobTables.{tables_by}
@@ -13,9 +13,7 @@ use Rattle.search_laws.specs.inner.Entries.{Entry}
 use Rattle.check_laws.specs.inner.Fates.{fate, at_ends}
 use Rattle.check_laws.specs.inner.Search.{fails_at, quiet, finds, visited, visit, at_lamp, tried}
 use Rattle.line_trial.specs.declared.Leg.{Leg}
-use Rattle.line_trial.specs.declared.Leg.TheVariants.{Nowhere, From}
-use Rattle.line_trial.specs.declared.Tried.{Tried}
-use Rattle.line_trial.specs.declared.Tried.TheVariants.{Fails, Nothing, New}
+use Rattle.line_trial.specs.declared.FailingEnd.{FailingEnd}
 
 -- The file is not refused and has this job, and the memory is one of fates in its tables.
 pub record Ready (s : List ℕ) (j : Job) (memory : List ℕ) : Type 0 where
@@ -43,12 +41,12 @@ pub record Goes (t : Tables) (E : List Entry) (member kind end : ℕ) (p : Pair)
   pub going : Going t E member kind end (pair_number t.worlds p) column
 
 -- What the answer on the last leg says of trying the line.
-abbrev BeginsSo : Tables → List Entry → ℕ → ℕ → ℕ → Leg → Type 0
-BeginsSo t E member kind end Nowhere = tried t E member kind ≡ quiet
-BeginsSo t E member kind end (From state world column) = Goes t E member kind end (pair state world) column
+abbrev BeginsSo : Tables → List Entry → ℕ → ℕ → ℕ → Option Leg → Type 0
+BeginsSo t E member kind end None = tried t E member kind ≡ quiet
+BeginsSo t E member kind end (Some leg) = Goes t E member kind end leg.pair leg.column
 
 -- `last_leg` answered r for this member, kind and end.
-pub record Begins (t : Tables) (E : List Entry) (member kind end : ℕ) (r : Leg) : Type 0 where
+pub record Begins (t : Tables) (E : List Entry) (member kind end : ℕ) (r : Option Leg) : Type 0 where
   pub so : BeginsSo t E member kind end r
 
 -- The lower ends were tried: the line fails with none of them, and if there is one, the pair with which it reaches its end is new.
@@ -70,11 +68,15 @@ pub record EndsNew (t : Tables) (E : List Entry) (member kind : ℕ) (words : Li
   pub unmarked : bit_at words (pair_number t.worlds p) ≡ false
   pub found : tried t E member kind ≡ finds (pair_number t.worlds p)
 
+-- What the functions that try lines answer.
+abbrev pub Tried : Type 0
+Tried = Result (Option Pair) FailingEnd
+
 -- What the answer on a line says of trying it; of a new pair it says `ForNew`.
 abbrev TriesSo : Tables → List Entry → ℕ → ℕ → (Pair → Type 0) → Tried → Type 0
-TriesSo t E member kind ForNew (Fails failure end) = tried t E member kind ≡ fails_at failure end
-TriesSo t E member kind ForNew Nothing = tried t E member kind ≡ quiet
-TriesSo t E member kind ForNew (New state world) = ForNew (pair state world)
+TriesSo t E member kind ForNew (Err fails) = tried t E member kind ≡ fails_at fails.failure fails.end
+TriesSo t E member kind ForNew (Ok None) = tried t E member kind ≡ quiet
+TriesSo t E member kind ForNew (Ok (Some p)) = ForNew p
 
 -- A function that tries lines answered r for this member and kind, and the memory is still one of fates.
 pub record Tries (t : Tables) (E : List Entry) (member kind : ℕ) (ForNew : Pair → Type 0) (r : Tried) (memory' : List ℕ) : Type 0 where

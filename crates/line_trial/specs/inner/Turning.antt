@@ -1,11 +1,10 @@
 -- For the functions and proofs of the search: what trying a line from a member answers and leaves.
-use Rattle.std.specs.Prelude.{◌≡◌, Bool, true, false, List, ℕ, ◌≤◌}
+use Rattle.std.specs.Prelude.{◌≡◌, Bool, true, false, List, ℕ, ◌≤◌, Result, Ok, Err}
 use Rattle.lamp_line.specs.Tables.{Tables}
 use Rattle.search_laws.specs.inner.Entries.{Entry, grown}
 use Rattle.check_laws.specs.inner.Search.{fails_at, quiet, finds, tried, line_entry}
 use Rattle.working_list.specs.inner.Listing.{table, Listed}
-use Rattle.line_trial.specs.declared.MemberEnd.{MemberEnd}
-use Rattle.line_trial.specs.declared.MemberEnd.TheVariants.{Fails, Holds}
+use Rattle.line_trial.specs.declared.FailingEnd.{FailingEnd}
 
 -- The table after a line was tried from a member from which it does not fail: nothing is new, or a pair was found.
 pub data Grows (t : Tables) (E : List Entry) (before member kind : ℕ) (E' : List Entry) : Type 0 where
@@ -25,12 +24,12 @@ pub data Keeps (t : Tables) (list : List ℕ) (n before member kind : ℕ) (list
       Keeps t list n before member kind list' m clean
 
 -- What the answer on one member says, with the list and the bits that are left.
-abbrev TurnedSo : Tables → List ℕ → ℕ → ℕ → ℕ → ℕ → Bool → MemberEnd → List ℕ → List ℕ → Type 0
-TurnedSo t list n before i k clean (Fails failure end) list' words' =
-    (tried t (table t list n) i k ≡ fails_at failure end) × (list' ≡ list) × Listed t list' words' n
-TurnedSo t list n before i k clean (Holds m) list' words' =
+abbrev TurnedSo : Tables → List ℕ → ℕ → ℕ → ℕ → ℕ → Bool → Result ℕ FailingEnd → List ℕ → List ℕ → Type 0
+TurnedSo t list n before i k clean (Err fails) list' words' =
+    (tried t (table t list n) i k ≡ fails_at fails.failure fails.end) × (list' ≡ list) × Listed t list' words' n
+TurnedSo t list n before i k clean (Ok m) list' words' =
     Keeps t list n before i k list' m clean × Listed t list' words' m × (n ≤ m)
 
 -- `try_member` answered r for this member and kind.
-pub record Turned (t : Tables) (list : List ℕ) (n before i k : ℕ) (clean : Bool) (r : MemberEnd) (list' words' : List ℕ) : Type 0 where
+pub record Turned (t : Tables) (list : List ℕ) (n before i k : ℕ) (clean : Bool) (r : Result ℕ FailingEnd) (list' words' : List ℕ) : Type 0 where
   pub so : TurnedSo t list n before i k clean r list' words'

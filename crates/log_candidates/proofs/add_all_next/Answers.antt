@@ -1,5 +1,4 @@
 use Rattle.std.proofs.Common.{rules}
-use borrow.Author.Rules.{rules}
 use Rattle.log_candidates.proofs.NextWorlds.{at_world, gathering_more, gathering_end}
 use Rattle.log_candidates.proofs.add_all_next.Goals as goal
 

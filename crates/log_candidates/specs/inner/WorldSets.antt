@@ -37,10 +37,6 @@ pub record Holds (j : Job) (sets : List ℕ) (w : WorldState) (c : ℕ) : Type 0
 pub record WorldsIn (j : Job) (sets : List ℕ) : Type 0 where
   pub below : (w : WorldState) (c : ℕ) → Holds j sets w c → w.0 < j.worlds
 
--- The first n words are this one.
-pub record Filled (sets : List ℕ) (word n : ℕ) : Type 0 where
-  pub same : (c : ℕ) → c < n → get_or sets c 0 ≡ word
-
 -- `after` has what `before` has, the world states with the property, and nothing else.
 pub record Adds (Added : WorldState → Type 0) (before after : ℕ) : Type 0 where
   pub adds : (v : WorldState) → Has after v ↔ (Has before v ⊎ Added v)

@@ -1,7 +1,7 @@
 -- The candidates of a replay: the world states and columns at which an execution can be that has given the log so far. They all have
 -- the same program state, since the log's results lead the plan there.
 use Rattle.std.specs.Prelude.{◌≡◌, ◌≢◌, ◌↔◌, true, false, List, ℕ, ◌<◌}
-use Rattle.std.proofs.Math.Option.{some}
+use Rattle.std.specs.Prelude.{Some}
 use Rattle.plans.specs.Execution.{Label, action_of, result_of}
 use Rattle.lamp_line.specs.declared.ProgramState.{ProgramState}
 use Rattle.lamp_line.specs.declared.WorldState.{WorldState}
@@ -40,7 +40,7 @@ module _ (t : Tables) where
   pub record NextEntry (q : ProgramState) (From : Candidates) (l : Label) (q' : ProgramState) (w : WorldState) (c : ℕ) : Type 0 where
     pub live : q ≢ final t
     pub acts : action_of l ≡ t.action q
-    pub branch : t.target q (result_of l) ≡ some q'
+    pub branch : t.target q (result_of l) ≡ Some q'
     pub next : NextCandidates From l w c
 
   -- The entry cannot be made.
@@ -51,7 +51,7 @@ module _ (t : Tables) where
   pub record GoesOn (q : ProgramState) (From : Candidates) (l : Label) (q' : ProgramState) (Held : Candidates) : Type 0 where
     pub live : q ≢ final t
     pub acts : action_of l ≡ t.action q
-    pub branch : t.target q (result_of l) ≡ some q'
+    pub branch : t.target q (result_of l) ≡ Some q'
     pub next : (w : WorldState) (c : ℕ) → Held w c ↔ NextCandidates From l w c
     pub some_next : (w : WorldState) × (c : ℕ) × Held w c
 

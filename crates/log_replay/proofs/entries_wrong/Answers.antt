@@ -1,5 +1,5 @@
+use Rattle.std.proofs.Common.{arith}
 use Rattle.log_replay.proofs.ReplayRefusals.{wrong_here, right_here}
-use native.Mathlib.Omega.{arith}
 use Rattle.lamp_line.proofs.Scan.{none_yet_start}
 use Rattle.log_replay.proofs.entries_wrong.Goals as goal
 

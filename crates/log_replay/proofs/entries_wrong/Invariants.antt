@@ -1,10 +1,3 @@
-use Rattle.std.proofs.Common.{◌-◌}
-use Rattle.log_replay.specs.Logs.{entry_count}
-use Prim.Native.Nat.{◌-◌}
-use Rattle.lamp_line.proofs.Scan.{NoneYet}
-use Rattle.log_replay.specs.ReplayAnswers.{entry_wrong}
-use Rattle.log_replay.specs.Logs.{entry_count}
-use Prim.Native.Nat.{◌-◌}
 use Rattle.lamp_line.proofs.Scan.{NoneYet}
 use Rattle.log_replay.specs.ReplayAnswers.{entry_wrong}
 use Rattle.log_replay.specs.Logs.{entry_count}
@@ -13,7 +6,3 @@ use Rattle.log_replay.proofs.entries_wrong.Given as goal
 abbrev pub invariant-loop-i : goal.invariant-loop-i
 invariant-loop-i l =
     NoneYet (entry_wrong l.actions l.results l.log) (entry_count l.log) l.i
-
-abbrev pub decreases-loop-i : goal.decreases-loop-i
-decreases-loop-i l =
-    l.entries - l.i

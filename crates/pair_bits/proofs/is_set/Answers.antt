@@ -1,5 +1,4 @@
 use Rattle.pair_bits.specs.Sum.{bit_at}
-use Rattle.pair_bits.specs.Sum.{bit_at}
 use Rattle.pair_bits.proofs.is_set.Goals as goal
 
 pub returns : goal.returns

@@ -1,47 +1,76 @@
-use mathlib.Core.Path.{sym, ◌∙◌}
-use Rattle.job_file.specs.Reading.{Opened}
-use Rattle.job_file.proofs.Opening.{reading_refused}
-use Rattle.plan_check.proofs.CheckRefusals.{file_refused_checked, buffer_refused, list_refused, words_refused}
-use Rattle.plan_check.proofs.CheckRefusals.{found_checked}
+use Rattle.std.proofs.Common.{arith}
+use Rattle.std.proofs.lemmas.Result.{err_from_is_err_and}
+use Rattle.lamp_fates.proofs.BlankMemory.{entries_most}
+use Rattle.job_file.proofs.WellFormed.{well_formed_by}
+use Rattle.job_layout.specs.JobTables.{tables_by}
+use Rattle.line_finding.specs.inner.Finding.{Finds}
+use Rattle.plan_check.proofs.CheckRefusals.{Enough, file_refused_checked, buffer_refused, list_refused, words_refused, has_room, found_checked}
 use Rattle.plan_check.proofs.check_lines.Goals as goal
+use Rattle.plan_check.proofs.check_lines.Goals.{then-size-le256, else-size-le256+then-size-le8192, else-size-le256+else-size-le8192}
 
-pub returns-in_default : goal.returns-in_default
-returns-in_default c =
-    file_refused_checked c.args.file.now _ _
-    (reading_refused _ _ _ _ c.read_job-reading.ensures c.in_default.is c.refusal_number.ensures)
+-- The `?` hands the reader's refusal on.
+pub returns-in_err-job : goal.returns-in_err-job
+returns-in_err-job c =
+    let exit = err_from_is_err_and c.from_residual.result c.from_residual.ensures.1 in
+    rw (exit.1, exit.2) (file_refused_checked _ _ _ c.in_err-job.ensures.refused)
 
+-- Here and below, the job's file is the one that was opened.
 pub returns-then-line-live : goal.returns-then-line-live
 returns-then-line-live c =
-    let opened : Opened c.args.file.now c.in-Job.job = sym c.read_job-reading.ensures ∙ c.in-Job.is in
-    buffer_refused c.args.file.now _ _ opened c.if-line-live.true
+    rw (← c.in_ok-job.ensures.opened) (buffer_refused _ _ _ c.in_ok-job.job.opened c.if-line-live.true)
 
 pub returns-then-list-pairs : goal.returns-then-list-pairs
 returns-then-list-pairs c =
-    let opened : Opened c.args.file.now c.in-Job.job = sym c.read_job-reading.ensures ∙ c.in-Job.is in
-    list_refused c.args.file.now _ _ opened c.if-line-live.false c.if-list-pairs.true
+    rw (← c.in_ok-job.ensures.opened) (list_refused _ _ _ c.in_ok-job.job.opened c.if-line-live.false c.if-list-pairs.true)
 
 pub returns-then-words-pairs : goal.returns-then-words-pairs
 returns-then-words-pairs c =
-    let opened : Opened c.args.file.now c.in-Job.job = sym c.read_job-reading.ensures ∙ c.in-Job.is in
-    words_refused c.args.file.now _ _ opened c.if-line-live.false c.if-list-pairs.false c.if-words-pairs.true
+    rw (← c.in_ok-job.ensures.opened)
+    (words_refused _ _ _ c.in_ok-job.job.opened c.if-line-live.false c.if-list-pairs.false c.if-words-pairs.true)
 
-pub returns-then-size-le256 : goal.returns-then-size-le256
-returns-then-size-le256 c =
-    let opened : Opened c.args.file.now c.in-Job.job = sym c.read_job-reading.ensures ∙ c.in-Job.is in
-    found_checked
-    (record { opened = opened; line_enough = c.if-line-live.false; list_enough = c.if-list-pairs.false; words_enough = c.if-words-pairs.false })
-    _ c.find_small.ensures c.outcome_of.ensures
+pub find-requires-else-size-le8192 : goal.find-requires-else-size-le8192
+find-requires-else-size-le8192 c =
+    let enough : Enough c.in_ok-job.job.file.now (record { line = c.args.line.now; list = c.args.list.now; words = c.args.words.now }) c.in_ok-job.job.head =
+    record {
+      opened = c.in_ok-job.job.opened;
+      line_enough = c.if-line-live.false;
+      list_enough = c.if-list-pairs.false;
+      words_enough = c.if-words-pairs.false;
+    } in
+    (has_room enough, entries_most (well_formed_by _ _ enough.opened), omega arith)
 
-pub returns-then-size-le8192 : goal.returns-then-size-le8192
-returns-then-size-le8192 c =
-    let opened : Opened c.args.file.now c.in-Job.job = sym c.read_job-reading.ensures ∙ c.in-Job.is in
-    found_checked
-    (record { opened = opened; line_enough = c.if-line-live.false; list_enough = c.if-list-pairs.false; words_enough = c.if-words-pairs.false })
-    _ c.find_middle.ensures c.outcome_of-then-size-le8192.ensures
+-- Whichever memory it is, the search has found the failure. The `?` hands it on.
+pub returns-in_err-found : goal.returns-in_err-found
+returns-in_err-found c =
+    let enough : Enough c.in_ok-job.job.file.now (record { line = c.args.line.now; list = c.args.list.now; words = c.args.words.now }) c.in_ok-job.job.head =
+    record {
+      opened = c.in_ok-job.job.opened;
+      line_enough = c.if-line-live.false;
+      list_enough = c.if-list-pairs.false;
+      words_enough = c.if-words-pairs.false;
+    } in
+    let finds : Finds (tables_by c.in_ok-job.job.file.now c.in_ok-job.job.head) c.args.longest c.if-size-le256.found c.args.line.now c.if-size-le256.line =
+    elim c.if-size-le256.branch [
+      | then-size-le256 w ↦ rw (w.found-is, w.line-is) w.find-found.ensures
+      | else-size-le256+then-size-le8192 w ↦ rw (w.found-is, w.line-is) w.find.ensures
+      | else-size-le256+else-size-le8192 w ↦ rw (w.found-is, w.line-is) w.find-else-size-le8192.ensures
+    ] in
+    let exit = err_from_is_err_and c.from_residual-in_err-found.result c.from_residual-in_err-found.ensures.1 in
+    rw (← c.in_ok-job.ensures.opened, exit.1, exit.2) (found_checked enough _ (rw c.in_err-found.was at finds))
 
 pub returns : goal.returns
 returns c =
-    let opened : Opened c.args.file.now c.in-Job.job = sym c.read_job-reading.ensures ∙ c.in-Job.is in
-    found_checked
-    (record { opened = opened; line_enough = c.if-line-live.false; list_enough = c.if-list-pairs.false; words_enough = c.if-words-pairs.false })
-    _ c.find_large.ensures c.outcome_of-2.ensures
+    let enough : Enough c.in_ok-job.job.file.now (record { line = c.args.line.now; list = c.args.list.now; words = c.args.words.now }) c.in_ok-job.job.head =
+    record {
+      opened = c.in_ok-job.job.opened;
+      line_enough = c.if-line-live.false;
+      list_enough = c.if-list-pairs.false;
+      words_enough = c.if-words-pairs.false;
+    } in
+    let finds : Finds (tables_by c.in_ok-job.job.file.now c.in_ok-job.job.head) c.args.longest c.if-size-le256.found c.args.line.now c.if-size-le256.line =
+    elim c.if-size-le256.branch [
+      | then-size-le256 w ↦ rw (w.found-is, w.line-is) w.find-found.ensures
+      | else-size-le256+then-size-le8192 w ↦ rw (w.found-is, w.line-is) w.find.ensures
+      | else-size-le256+else-size-le8192 w ↦ rw (w.found-is, w.line-is) w.find-else-size-le8192.ensures
+    ] in
+    rw (← c.in_ok-job.ensures.opened) (found_checked enough _ (rw c.in_ok-found.was at finds))

@@ -1,5 +1,4 @@
-use mathlib.Core.Path.{sym, ◌∙◌}
-use native.Mathlib.Omega.{arith}
+use Rattle.std.proofs.Common.{◌∙◌, sym, arith}
 use Rattle.lamp_line.proofs.Scan.{none_yet_start, none_yet_more, scan_finds}
 use Rattle.plan_refusals.proofs.target_wrong.Goals as goal
 

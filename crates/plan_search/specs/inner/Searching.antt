@@ -1,12 +1,11 @@
 -- For the loops of the search and the crate above: what they answer and leave.
-use Rattle.std.specs.Prelude.{◌≡◌, List, ℕ, ◌≤◌, length, take}
+use Rattle.std.specs.Prelude.{◌≡◌, List, ℕ, ◌≤◌, length, take, Result, Ok, Err}
 use Rattle.lamp_line.specs.Tables.{Tables}
 use Rattle.lamp_line.specs.declared.FailureKind.{FailureKind}
 use Rattle.lamp_line.specs.Check.{accepted}
 use Rattle.run_laws.specs.inner.Pairs.{pairs}
 use Rattle.check_laws.specs.inner.Search.{failing, line_lamps, Beyond, verdict_of}
-use Rattle.plan_search.specs.declared.SearchEnd.{SearchEnd}
-use Rattle.plan_search.specs.declared.SearchEnd.TheVariants.{NoneFails, AtLine}
+use Rattle.plan_search.specs.declared.FailingLine.{FailingLine}
 use Rattle.working_list.specs.inner.Placing.{MemberOf, Chained}
 use Rattle.working_list.specs.inner.Listing.{table}
 
@@ -28,10 +27,10 @@ pub record LineMet (t : Tables) (longest : ℕ) (kind : FailureKind) (end : ℕ)
   pub chained : Chained (take n list)
 
 -- What the answer of `search_groups` says, with the list that it left.
-abbrev pub SearchedSo : Tables → ℕ → SearchEnd → List ℕ → Type 0
-SearchedSo t longest (NoneFails count) list = NoneMet t longest count
-SearchedSo t longest (AtLine kind end n member k lamps) list = LineMet t longest kind end list n member k lamps
+abbrev pub SearchedSo : Tables → ℕ → Result ℕ FailingLine → List ℕ → Type 0
+SearchedSo t longest (Ok count) list = NoneMet t longest count
+SearchedSo t longest (Err line) list = LineMet t longest line.failure line.end list line.count line.member line.kind line.lamps
 
 -- `search_groups` answered r and left this list.
-pub record Searched (t : Tables) (longest : ℕ) (r : SearchEnd) (list : List ℕ) : Type 0 where
+pub record Searched (t : Tables) (longest : ℕ) (r : Result ℕ FailingLine) (list : List ℕ) : Type 0 where
   pub so : SearchedSo t longest r list

@@ -1,7 +1,8 @@
 -- Which pairs the tables have, and the number of each, for the proof of failure 3, the memory of fates and the search.
 use Rattle.std.specs.Prelude.{ℕ, ◌+◌, ◌*◌, ◌/◌, ◌%◌, ◌≤◌, ◌<◌}
 use Rattle.lamp_line.specs.Tables.{Tables, program_state, world_state}
-use Rattle.lamp_line.specs.Run.{Pair, pair}
+use Rattle.lamp_line.specs.declared.Pair.{Pair}
+use Rattle.lamp_line.specs.Run.{pair}
 
 -- A pair of the tables: its program state is at most S, its world state is below W.
 pub record InRange (t : Tables) (p : Pair) : Type 0 where

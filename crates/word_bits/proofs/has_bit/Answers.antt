@@ -1,4 +1,4 @@
-use mathlib.Core.Path.{refl}
+use Rattle.std.proofs.Common.{refl}
 use Rattle.word_bits.specs.Bits.{bit_in}
 use Rattle.word_bits.proofs.has_bit.Goals as goal
 

@@ -1,5 +1,4 @@
 use Rattle.std.proofs.Common.{rules}
-use borrow.Author.Rules.{rules}
 use Rattle.word_bits.proofs.LowestBit.{lowest}
 use Rattle.word_bits.proofs.lowest_bit.Goals as goal
 

@@ -1,5 +1,4 @@
 use Rattle.std.proofs.Common.{rules}
-use borrow.Author.Rules.{rules}
 use Rattle.word_bits.proofs.LowestBit.{lowest_removed}
 use Rattle.word_bits.proofs.without_lowest.Goals as goal
 

@@ -5,7 +5,7 @@ use Rattle.run_laws.specs.inner.Pairs.{InRange, pairs}
 use Rattle.pair_bits.specs.Sum.{bit_at, SumIs}
 use Rattle.search_laws.specs.inner.Entries.{Entry}
 use Rattle.check_laws.specs.inner.Search.{met}
-use Rattle.working_list.specs.inner.Placing.{unpacked, placed_pair, entries, MemberOf}
+use Rattle.working_list.specs.inner.Placing.{unpacked, entries, MemberOf}
 
 -- The entries of the first n words of the list.
 abbrev pub table : Tables → List ℕ → ℕ → List Entry
@@ -18,7 +18,7 @@ pub record Listed (t : Tables) (list words : List ℕ) (n : ℕ) : Type 0 where
   -- As many bits are set as the list has words.
   pub counted : SumIs words (pairs t) n
   -- The pairs are those of the tables, each found from a start or from a pair before it.
-  pub ranges : (i : ℕ) → i < n → InRange t (placed_pair (unpacked (get_or list i 0)))
+  pub ranges : (i : ℕ) → i < n → InRange t (unpacked (get_or list i 0)).pair
   pub chained : (i : ℕ) → i < n → MemberOf i (unpacked (get_or list i 0)).member (unpacked (get_or list i 0)).kind
   -- There is room for all pairs.
   pub list_room : pairs t ≤ length list

@@ -4,7 +4,7 @@
 use Rattle.std.specs.Prelude.{◌≡◌, cond, List, [], ◌∷◌, ◌++◌, ℕ, ◌+◌, ◌*◌, ◌/◌, ◌%◌, ◌≤◌, ◌<◌, eqb, length, get_or, drop}
 use Rattle.lamp_line.specs.declared.WorldState.{WorldState}
 use Rattle.lamp_line.specs.Tables.{program_state, world_state}
-use Rattle.lamp_line.specs.Run.{Pair, pair}
+use Rattle.lamp_line.specs.Run.{pair}
 use Rattle.run_laws.specs.inner.Pairs.{pair_number}
 use Rattle.search_laws.specs.inner.Entries.{Entry, entry, grown}
 use Rattle.check_laws.specs.inner.Search.{line_start, line_lamps}
@@ -12,14 +12,13 @@ use Rattle.working_list.specs.declared.Placed.{Placed}
 
 -- A placed pair as one word: 6 bits for its world, 7 for its state, 13 for the member, 4 for the kind, and one for `opens`.
 unfoldable pub packed : Placed → ℕ
-packed p = p.world.0 + 64 * (p.state.0 + 128 * (p.member + 8192 * (p.kind + 16 * cond p.opens 1 0)))
+packed p = p.pair.world.0 + 64 * (p.pair.state.0 + 128 * (p.member + 8192 * (p.kind + 16 * cond p.opens 1 0)))
 
 -- The placed pair of a word.
 unfoldable pub unpacked : ℕ → Placed
 unpacked word =
     record {
-      state = program_state (word / 64 % 128);
-      world = world_state (word % 64);
+      pair = pair (program_state (word / 64 % 128)) (world_state (word % 64));
       member = word / 8192 % 8192;
       kind = word / 67108864 % 16;
       opens = eqb (word / 1073741824) 1;
@@ -27,19 +26,15 @@ unpacked word =
 
 -- Its numbers fit in these bits.
 pub record Packable (p : Placed) : Type 0 where
-  pub state_fits : p.state.0 < 128
-  pub world_fits : p.world.0 < 64
+  pub state_fits : p.pair.state.0 < 128
+  pub world_fits : p.pair.world.0 < 64
   pub member_fits : p.member < 8192
   pub kind_fits : p.kind < 16
-
--- Its pair alone.
-abbrev pub placed_pair : Placed → Pair
-placed_pair p = pair p.state p.world
 
 -- The entry of a placed pair after the entries of E.
 abbrev pub placed_entry : ℕ → List Entry → Placed → Entry
 placed_entry worlds E p =
-    entry (pair_number worlds (placed_pair p)) (line_start E p.member p.kind) (line_lamps E p.member p.kind) p.opens
+    entry (pair_number worlds p.pair) (line_start E p.member p.kind) (line_lamps E p.member p.kind) p.opens
 
 -- The entries of the words, after those of E.
 unfoldable pub entries_from : ℕ → List Entry → List ℕ → List Entry

@@ -1,5 +1,4 @@
-use mathlib.Core.Path.{sym, ◌∙◌}
-use native.Mathlib.Omega.{arith}
+use Rattle.std.proofs.Common.{sym, ◌∙◌, arith}
 use Rattle.lamp_line.proofs.Scan.{none_yet_start, none_yet_more, scan_finds}
 use Rattle.world_cells.proofs.Columns.{cells_row_in}
 use Rattle.world_cells.proofs.any_left.Goals as goal

@@ -1,5 +1,4 @@
-use native.Mathlib.Omega.{arith}
-use borrow.Author.Tests.{eq-eqb, ne_eqb}
+use Rattle.std.proofs.Common.{arith, eq-eqb, ne_eqb}
 use Rattle.lamp_line.proofs.Scan.{none_yet_start, none_yet_more, scan_finds}
 use Rattle.world_cells.proofs.any_undecided.Goals as goal
 

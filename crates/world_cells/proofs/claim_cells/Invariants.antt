@@ -1,15 +1,5 @@
-use Rattle.std.proofs.Common.{◌-◌, ◌≤◌}
-use Rattle.world_cells.specs.inner.CellsWritten.{Claimed}
-use Prim.Native.Nat.{◌-◌, ◌≤◌}
-use Rattle.world_cells.specs.inner.CellsWritten.{Claimed}
-use Prim.Native.Nat.{◌-◌, ◌≤◌}
 use Rattle.world_cells.specs.inner.CellsWritten.{Claimed}
 use Rattle.world_cells.proofs.claim_cells.Given as goal
 
 abbrev pub invariant-loop-i : goal.invariant-loop-i
-invariant-loop-i l =
-    Claimed l.initial.part l.part l.first l.i l.next.0 l.sensed × (l.first ≤ l.i) × (l.i ≤ l.end)
-
-abbrev pub decreases-loop-i : goal.decreases-loop-i
-decreases-loop-i l =
-    l.end - l.i
+invariant-loop-i l = Claimed l.initial.part l.part l.first l.i l.next.0 l.sensed

@@ -1,6 +1,4 @@
 use Rattle.working_list.proofs.LineLoops.{Writing}
-use Rattle.working_list.proofs.LineLoops.{Writing}
-use Rattle.working_list.proofs.LineLoops.{Writing}
 use Rattle.working_list.proofs.line.write_line.Given as goal
 
 abbrev pub invariant-loop-lamp : goal.invariant-loop-lamp

@@ -1,4 +1,3 @@
-use native.Mathlib.Omega.{arith}
 use Rattle.working_list.proofs.GroupEnds.{so_far_begins, ends_here, so_far_on, ends_last}
 use Rattle.working_list.proofs.list.group_end.Goals as goal
 
@@ -6,14 +5,14 @@ pub loop-to-init : goal.loop-to-init
 loop-to-init c =
     so_far_begins c.requires.0 c.requires.1
 
-pub returns-then-pair : goal.returns-then-pair
-returns-then-pair c =
-    ends_here c.loop-to.invariant c.loop-to-test.true c.unpack-pair.ensures c.if-pair.true
+pub returns-then-unpack : goal.returns-then-unpack
+returns-then-unpack c =
+    ends_here c.loop-to.invariant c.loop-to-test.true c.unpack.ensures c.if-unpack.true
 
 pub loop-to-preserved : goal.loop-to-preserved
 loop-to-preserved c =
-    so_far_on c.loop-to.invariant c.loop-to-test.true c.unpack-pair.ensures c.if-pair.false
+    so_far_on c.loop-to.invariant c.loop-to-test.true c.unpack.ensures c.if-unpack.false
 
 pub returns : goal.returns
 returns c =
-    ends_last c.loop-to.invariant (omega (arith, c.loop-to-test.false))
+    ends_last c.loop-to.invariant c.loop-to-test.false

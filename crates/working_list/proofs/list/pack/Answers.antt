@@ -1,9 +1,4 @@
-use Rattle.std.proofs.Common.{◌≡◌, ◌<◌, Bool, true, false}
-use Rattle.working_list.specs.inner.Placing.{packed}
-use mathlib.Core.Path.{◌≡◌, refl}
-use mathlib.Core.Bool.{Bool, true, false, cond}
-use Prim.Native.Nat.{◌<◌}
-use native.Mathlib.Omega.{arith}
+use Rattle.std.proofs.Common.{◌≡◌, ◌<◌, refl, Bool, true, false, cond, arith}
 use mir.Val.{bool_byte}
 use Rattle.working_list.specs.inner.Placing.{packed}
 use Rattle.working_list.proofs.list.pack.Goals as goal

@@ -1,5 +1,4 @@
-use Rattle.working_list.specs.inner.Placing.{unpacked}
-use mathlib.Core.Path.{refl}
+use Rattle.std.proofs.Common.{refl}
 use Rattle.working_list.specs.inner.Placing.{unpacked}
 use Rattle.working_list.proofs.list.unpack.Goals as goal
 

@@ -1,0 +1,10 @@
+use Rattle.std.proofs.Common.{◌∙◌, ltb, rules, tests}
+use Rattle.std.proofs.lemmas.Iterator.{YieldsList-from_slice}
+use Rattle.std.proofs.lemmas.Iterator.Search.{any_from_yields_List}
+use Rattle.lamp_line.proofs.Scan.{any_in_part}
+use Rattle.bit_refusals.proofs.goal_wrong.Goals as goal
+
+pub returns : goal.returns
+returns c =
+    any_from_yields_List (ltb 1) _ _ _ c.any.ensures.ran (YieldsList-from_slice _ c.iter.ensures.rest) (λ x b q k. search (rules, tests))
+    ∙ rw c.goal_count.ensures (any_in_part (ltb 1) _ _ _ c.args.laid.now.laid.goal_in)

@@ -1,6 +1,0 @@
-use Rattle.lamp_fates.proofs.BlankMemory.{blank_memory}
-use Rattle.line_finding.proofs.find_middle.Goals as goal
-
-pub search-requires : goal.search-requires
-search-requires c =
-    (record { opened = c.requires.0; remembers = blank_memory _ 8192 c.requires.2 }, c.requires.1)
