@@ -11,7 +11,7 @@ ghost use Rattle.cell_filling.specs.FillAnswers.{CellsFilled};
 
 use job_layout::Sizes;
 use lamp_line::{Refusal, WorldState};
-use rules_file::{Rules, rules_wrong};
+use rules_file::Rules;
 use world_cells::{fill_world, write_cell};
 
 // Writes all cells as not legal.
@@ -45,16 +45,10 @@ fn part_length(sizes: Sizes) -> usize
 pub fn fill_cells(rules: &[u8], sizes: Sizes, part: &mut [u8]) -> Result<(), Refusal>
     ensures { CellsFilled rules.now sizes result part.old part.new }
 {
-    if rules_wrong(rules, sizes) {
-        return Err(Refusal::Rules);
-    }
+    let rules = Rules::open(rules, sizes)?;
     if part.len() != part_length(sizes) {
         return Err(Refusal::CellsLength);
     }
-    let rules = Rules {
-        bytes: rules,
-        sizes,
-    };
     fill_part(&rules, part);
     Ok(())
 }

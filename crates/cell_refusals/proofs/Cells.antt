@@ -1,27 +1,16 @@
 -- The cells of a part of a file are its bytes in pairs: a test of such pairs, and the property of the places that it stands for.
-use Rattle.std.proofs.Common.{◌≡◌, ◌∙◌, Bool, List, [], ℕ, zero, suc, ◌+◌, ◌-◌, ◌*◌, ◌/◌, ◌≤◌, ◌<◌, refl, ap, length, get_or, take, drop, arith, get_or-take, get_or-drop}
+use Rattle.std.proofs.Common.{◌≡◌, ◌∙◌, Bool, List, [], ℕ, ◌+◌, ◌-◌, ◌*◌, ◌/◌, ◌≤◌, ◌<◌, ap, length, get_or, arith}
 use Rattle.std.specs.List.{list_any, between}
 use Rattle.std.specs.Simd.{first_chunks}
-use Rattle.std.proofs.lemmas.List.{drop-drop}
 use Rattle.std.proofs.lemmas.List.Edits.{length-between, get_or-between}
 use Rattle.lamp_line.specs.Refusals.{some_below}
+use Rattle.lamp_line.proofs.PairsOfBytes.{count_of_pairs, byte_of_pair}
 use Rattle.lamp_line.proofs.Scan.{any_by_place}
 use Rattle.job_layout.specs.FileRefusals.{cell_wrong_in, cell_wrong_at}
 
 -- The test of a pair of bytes.
 abbrev pub pair_wrong : ℕ → ℕ → List ℕ → Bool
 pair_wrong worlds results cell = cell_wrong_in worlds results (get_or cell 0 0) (get_or cell 1 0)
-
-count_of_pairs : (n : ℕ) (l : List ℕ) → length (first_chunks 2 n l) ≡ n
-count_of_pairs zero l = refl
-count_of_pairs (suc n) l = ap suc (count_of_pairs n (drop 2 l))
-
-pair_at : (n : ℕ) (l : List ℕ) (i : ℕ) → i < n → get_or (first_chunks 2 n l) i [] ≡ take 2 (drop (2 * i) l)
-pair_at zero l i i< = absurd (omega arith)
-pair_at (suc n) l zero i< = refl
-pair_at (suc n) l (suc i) i< =
-    let e : 2 + 2 * i ≡ 2 * suc i = omega arith in
-    pair_at n (drop 2 l) i (omega arith) ∙ ap (take 2) (drop-drop (2 * i) 2 l ∙ ap (λ (k : ℕ). drop k l) e)
 
 module _ (l : List ℕ) (from count : ℕ) (within : from + 2 * count ≤ length l) where
   abbrev part : List ℕ
@@ -30,9 +19,7 @@ module _ (l : List ℕ) (from count : ℕ) (within : from + 2 * count ≤ length
   byte_at : (i k : ℕ) → i < count → k < 2 → get_or (get_or (first_chunks 2 count part) i []) k 0 ≡ get_or l (from + 2 * i + k) 0
   byte_at i k i< k< =
       let e : from + (2 * i + k) ≡ from + 2 * i + k = omega arith in
-      ap (λ (p : List ℕ). get_or p k 0) (pair_at count part i i<)
-      ∙ get_or-take 2 (drop (2 * i) part) k 0 k<
-      ∙ get_or-drop (2 * i) part k 0
+      byte_of_pair part count i k i< k<
       ∙ get_or-between l from (from + 2 * count) (2 * i + k) 0 (omega arith)
       ∙ ap (λ (n : ℕ). get_or l n 0) e
 

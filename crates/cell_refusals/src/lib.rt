@@ -7,7 +7,7 @@
 ghost use Rattle.std.specs.Prelude.{◌≡◌, ◌+◌, ◌*◌, ◌≤◌, ◌<◌, length};
 ghost use Rattle.lamp_line.specs.Tables.{kinds_of_ends};
 ghost use Rattle.lamp_line.specs.Refusals.{some_below};
-ghost use Rattle.job_layout.specs.FileRefusals.{cell_wrong_in, cell_wrong_at, cell_wrong, legal_at_end, moves_on_at_end, end_wrong};
+ghost use Rattle.job_layout.specs.FileRefusals.{cell_wrong_in, cell_wrong_at, cell_wrong, legal_at, legal_at_end, moves_on_at_end, end_wrong};
 
 use job_layout::LaidJob;
 use lamp_line::WorldState;
@@ -48,18 +48,21 @@ pub fn cell_wrong(laid: &LaidJob) -> bool
     )
 }
 
+// The action is legal at this end in this world state.
+fn legal_at(laid: &LaidJob, action: u8, end: u8, world: u8) -> bool
+    requires { (action < laid.now.head.actions) × (end < kinds_of_ends laid.now.head.ends) × (world < laid.now.head.worlds) }
+    ensures { result ≡ legal_at laid.now.file.now laid.now.head action end world }
+{
+    let at = laid.head.next_place(action, WorldState(world), end);
+    laid.file[at + 1] != 255
+}
+
 // The action is legal at this end in some world state.
 fn legal_at_end(laid: &LaidJob, action: u8, end: u8) -> bool
     requires { (action < laid.now.head.actions) × (end < kinds_of_ends laid.now.head.ends) }
     ensures { result ≡ legal_at_end laid.now.file.now laid.now.head action end }
 {
-    for w in 0..laid.head.worlds {
-        let at = laid.head.next_place(action, WorldState(w), end);
-        if laid.file[at + 1] != 255 {
-            return true;
-        }
-    }
-    false
+    (0..laid.head.worlds).any(|world| legal_at(laid, action, end, world))
 }
 
 // The action is legal at some end.
@@ -87,10 +90,5 @@ fn moves_on_at_end(laid: &LaidJob, action: u8) -> bool
 pub fn end_wrong(laid: &LaidJob) -> bool
     ensures { result ≡ end_wrong laid.now.file.now laid.now.head }
 {
-    for a in 0..laid.head.actions {
-        if moves_on_at_end(laid, a) {
-            return true;
-        }
-    }
-    false
+    (0..laid.head.actions).any(|action| moves_on_at_end(laid, action))
 }

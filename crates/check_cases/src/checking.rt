@@ -1,5 +1,5 @@
 // Both checks as one call, with the answer in one form.
-use lamp_line::Refusal;
+use lamp_line::{FailureKind, Refusal};
 use plan_check::CheckError;
 use row_cases::printing::{print_bytes, print_refused};
 use std::io;
@@ -11,7 +11,7 @@ pub enum Told {
     Accepted(usize),
     NoneUpTo(usize),
     Failed {
-        number: u8,
+        kind: FailureKind,
         start: u8,
         lamps: usize,
         end: u8,
@@ -33,7 +33,7 @@ impl From<CheckError> for Told {
     fn from(error: CheckError) -> Told {
         match error {
             CheckError::Failed(failure) => Told::Failed {
-                number: failure.kind.number(),
+                kind: failure.kind,
                 start: failure.start.0,
                 lamps: usize::from(failure.lamps),
                 end: failure.end,
@@ -69,12 +69,12 @@ pub fn print_told(rt: &impl Print, told: Told, buffer: &[u8]) -> io::Result<()> 
         Told::Accepted(pairs) => print!(rt; " accepted {pairs}"),
         Told::NoneUpTo(longest) => print!(rt; " none up to {longest}"),
         Told::Failed {
-            number,
+            kind,
             start,
             lamps,
             end,
         } => {
-            print!(rt; " fails {number} {start} {lamps}")?;
+            print!(rt; " fails {} {start} {lamps}", kind.number())?;
             if lamps <= buffer.len() {
                 print_bytes(rt, &buffer[..lamps])?;
             }

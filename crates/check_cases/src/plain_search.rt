@@ -40,8 +40,9 @@ fn line_of(number: u32, shape: Shape, line: &mut [u8]) -> Option<&[u8]> {
     if left == 0 { Some(line) } else { None }
 }
 
-// What the first trial that fails tells, of those with lines that fit the buffer. Its line is left at the buffer's end. The answer is None, which is
-// like no check's, where a run is stopped or the trials are too many.
+// What the first trial that fails tells, of those with lines that fit the buffer. Its line is left at the buffer's end. If none fails, the answer is
+// that none does, and how many lamps the longest of these lines have. It is None, which is like no check's, where a run is stopped or the trials
+// are too many.
 pub fn first_failing(file: &[u8], line: &mut [u8]) -> Option<Told> {
     let shape = shape_of(file);
     for number in 0..100000 {
@@ -56,7 +57,7 @@ pub fn first_failing(file: &[u8], line: &mut [u8]) -> Option<Told> {
             Ok(Ran::Ended(Ending::Goal, _)) | Err(Refusal::Start) => {}
             Ok(Ran::Ended(Ending::Failure(kind), _)) => {
                 return Some(Told::Failed {
-                    number: kind.number(),
+                    kind,
                     start: trial.start,
                     lamps: lamps.len(),
                     end: trial.end,

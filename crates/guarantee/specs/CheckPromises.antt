@@ -37,7 +37,7 @@ FailsExactly =
 -- ---- determined
 
 -- The same answer, and the same bytes in the line buffer.
-pub record SameChecks (r r' : CheckAnswer ℕ) (after after' : Lent) : Type 0 where
+pub record SameChecks {A : Type 0} (r r' : A) (after after' : Lent) : Type 0 where
   pub same_answer : r ≡ r'
   pub same_line : after.line ≡ after'.line
 

@@ -9,9 +9,7 @@ fn read_word(file: &[u8], at: usize) -> u16
     requires { at + 2 ≤ length file.now }
     ensures { result ≡ number16 file.now at }
 {
-    let low = file[at] as u16;
-    let high = file[at + 1] as u16;
-    low + 256 * high
+    u16::from_le_bytes([file[at], file[at + 1]])
 }
 
 fn read_part(file: &[u8], at: usize) -> Part

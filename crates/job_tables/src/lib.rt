@@ -1,9 +1,10 @@
 // Opens a job file, and reads the tables of one that is not refused: marks, cells, starts, goal, and the actions and targets of the plan.
 //
-// The functions that read a table are for the crates above and not for users: each asks for numbers within the table.
+// The functions that read a table are for the crates above and not for users: each asks for numbers within the table, but `is_start` asks
+// nothing, since a world state that the job does not have is no start.
 #![tactic(auto)]
 
-ghost use Rattle.std.specs.Prelude.{◌≡◌, ◌<◌, Err, IfOk, IfErr};
+ghost use Rattle.std.specs.Prelude.{◌≡◌, ◌<◌, eqb, Err, IfOk, IfErr};
 ghost use Rattle.lamp_line.specs.Tables.{moves_on};
 ghost use Rattle.job_layout.specs.Layout.{job_columns};
 ghost use Rattle.job_layout.specs.JobTables.{tables_of};
@@ -76,10 +77,14 @@ impl OpenJob<'_> {
     pub fn is_start(&self, world: WorldState) -> bool
         ensures { result ≡ (tables_of self.now.file.now).start world }
     {
-        if self.head.worlds <= world.0 {
-            return false;
-        }
-        self.file[self.head.start_place(world)] == 1
+        world.0 < self.head.worlds && self.file[self.head.start_place(world)] == 1
+    }
+
+    // The program state is the final one.
+    pub fn is_final(&self, state: ProgramState) -> bool
+        ensures { result ≡ eqb state.0 self.now.head.states }
+    {
+        state.0 == self.head.states
     }
 
     // The goal is true in a world state, at a column.

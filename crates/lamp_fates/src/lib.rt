@@ -8,7 +8,7 @@
 ghost use Rattle.std.specs.Prelude.{◌≡◌, ◌+◌, ◌*◌, ◌<◌};
 ghost use Rattle.job_layout.specs.Layout.{job_columns};
 ghost use Rattle.lamp_line.specs.Run.{ended};
-ghost use Rattle.job_tables.specs.Opened.{tables};
+ghost use Rattle.job_tables.specs.inner.Opened.{tables};
 ghost use Rattle.run_laws.specs.inner.Pairs.{InRange, pair_number};
 ghost use Rattle.lamp_fates.specs.inner.Memory.{walk_to, pair_code, fate_entry, fate_from, Memory, LookedUp};
 ghost use Rattle.lamp_fates.specs.inner.Links.{WalkedTo};
@@ -115,7 +115,7 @@ fn walk_to_fate(job: &OpenJob, memory: &mut [u16], pair: Pair, column: u8) -> u1
             Acted::Ends(ending) => return ending_entry(ending),
             Acted::Passes(next) => return 16 + pair_code(next),
             Acted::Stays(next) => {
-                if next.state.0 == job.head.states {
+                if job.is_final(next.state) {
                     return ending_entry(judge(job, next.world, column));
                 }
                 memory[place] = LINKS + pair_number(next, job.head.worlds) as u16;

@@ -1,8 +1,9 @@
 -- Laws for a loop that looks for a number below n with a property, from 0 upwards: what it knows on the way, and what its answer
 -- says. What a test of the elements of a list says of their places.
 use Rattle.std.proofs.Common.{◌≡◌, ◌∙◌, Bool, true, false, ◌||◌, List, [], ◌∷◌, ℕ, zero, suc, ◌+◌, ◌≤◌, ◌<◌, refl, sym, ap, subst, length, get_or, arith}
-use Rattle.std.specs.List.{list_any, between}
+use Rattle.std.specs.List.{list_any, between, range_with_len}
 use Rattle.std.proofs.lemmas.List.Edits.{length-between, get_or-between}
+use Rattle.std.proofs.lemmas.List.FromFn.{length-range_with_len, get_or-range_with_len}
 use mathlib.Core.Bool.{false≢true, or-true}
 use native.Mathlib.Decide.{ℕ_discrete}
 use native.Mathlib.Numerals.{add-one}
@@ -100,6 +101,17 @@ any_in_part test l from count within =
     any_by_place test (λ i. test (get_or l (from + i) 0)) (between from (from + count) l) 0
     (λ i i<. ap test (get_or-between l from (from + count) i 0 (omega arith)))
     ∙ ap (λ (n : ℕ). some_below n (λ i. test (get_or l (from + i) 0))) long
+
+-- The same of the numbers below n.
+pub any_below : (p : ℕ → Bool) (n : ℕ) → list_any p (range_with_len 0 n) ≡ some_below n p
+any_below p n =
+    let long : length (range_with_len 0 n) ≡ n = length-range_with_len 0 n in
+    any_by_place p p (range_with_len 0 n) 0
+    (λ i i<.
+    let i<n : i < n = omega (arith, long) in
+    let e : get_or (range_with_len 0 n) i 0 ≡ i = get_or-range_with_len 0 n i 0 i<n ∙ omega arith in
+    ap p e)
+    ∙ ap (λ (m : ℕ). some_below m p) long
 
 -- Some element of a list has a property exactly when some element passes it as a test.
 pub some_of_any : (p : ℕ → Bool) (l : List ℕ) → list_any p l ≡ some_of l p

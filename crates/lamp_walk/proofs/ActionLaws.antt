@@ -1,5 +1,5 @@
 -- What one action does, given what the code has read from the file.
-use Rattle.std.proofs.Common.{◌≡◌, sym, ap, ◌∙◌, Bool, true, false, List, ℕ, ◌<◌, Option, None, Some, eqb, eq-eqb, ne_eqb, arith}
+use Rattle.std.proofs.Common.{◌≡◌, sym, ap, ◌∙◌, Bool, true, false, List, ℕ, ◌<◌, Option, None, Some, eqb, ne_eqb, arith}
 use Rattle.plans.specs.Plan.{Action}
 use Rattle.lamp_line.specs.declared.ProgramState.{ProgramState}
 use Rattle.lamp_line.specs.declared.Pair.{Pair}
@@ -17,18 +17,21 @@ use Rattle.job_tables.proofs.Ranges.{states_are}
 use Rattle.lamp_walk.specs.inner.Walking.{spent_ending}
 
 module _ (s : List ℕ) {j : Job} (opened : Opened s j) (p : Pair) (c : ℕ) where
+  tested : {b : Bool} → eqb p.state.0 j.states ≡ b → eqb p.state.0 (tables_of s).states ≡ b
+  tested test = ap (λ (n : ℕ). eqb p.state.0 n) (sym (states_are s j opened)) ∙ test
+
   -- State S: the run ends.
-  pub acts_final : {x : Ending} → p.state.0 ≡ j.states → x ≡ judged (tables_of s) p.world c → ends x ≡ act (tables_of s) p c
+  pub acts_final : {x : Ending} → eqb p.state.0 j.states ≡ true → x ≡ judged (tables_of s) p.world c → ends x ≡ act (tables_of s) p c
   unfolding act
-  acts_final final is = rw (eq-eqb _ _ (final ∙ states_are s j opened)) (ap ends is)
+  acts_final final is = rw (tested final) (ap ends is)
 
   -- Where no step is left, state S is judged.
-  pub spent_final : {x : Ending} → p.state.0 ≡ j.states → x ≡ judged (tables_of s) p.world c → x ≡ spent_ending (tables_of s) p c
-  spent_final final is = rw (eq-eqb _ _ (final ∙ states_are s j opened)) is
+  pub spent_final : {x : Ending} → eqb p.state.0 j.states ≡ true → x ≡ judged (tables_of s) p.world c → x ≡ spent_ending (tables_of s) p c
+  spent_final final is = rw (tested final) is
 
   -- Any other state has circled.
-  pub spent_circles : ¬ (p.state.0 ≡ j.states) → Failure failure.Circles ≡ spent_ending (tables_of s) p c
-  spent_circles other = rw (ne_eqb _ _ (λ e. other (e ∙ sym (states_are s j opened))))
+  pub spent_circles : eqb p.state.0 j.states ≡ false → Failure failure.Circles ≡ spent_ending (tables_of s) p c
+  spent_circles other = rw (tested other)
 
   live : p.state.0 < j.states → eqb p.state.0 (tables_of s).states ≡ false
   live q< = ne_eqb p.state.0 (tables_of s).states (λ e. omega (arith, states_are s j opened))

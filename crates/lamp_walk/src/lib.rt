@@ -68,7 +68,7 @@ pub fn one_action(job: &OpenJob, pair: Pair, column: u8) -> Acted
         × (column < job_columns job.now.head) }
     ensures { move_of result ≡ act (tables_of job.now.file.now) pair column }
 {
-    if pair.state.0 == job.head.states {
+    if job.is_final(pair.state) {
         return Acted::Ends(judge(job, pair.world, column));
     }
     try_action(job, pair, column)
@@ -79,7 +79,7 @@ fn spent(job: &OpenJob, pair: Pair, column: u8) -> Ending
     requires { (pair.world.0 < job.now.head.worlds) × (column < job_columns job.now.head) }
     ensures { result ≡ spent_ending (tables_of job.now.file.now) pair column }
 {
-    if pair.state.0 == job.head.states {
+    if job.is_final(pair.state) {
         return judge(job, pair.world, column);
     }
     Ending::Failure(FailureKind::Circles)

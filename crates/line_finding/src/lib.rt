@@ -5,8 +5,8 @@
 // is large enough for.
 #![tactic(auto)]
 
-ghost use Rattle.std.specs.Prelude.{◌≤◌, length};
-ghost use Rattle.job_tables.specs.Opened.{tables};
+ghost use Rattle.std.specs.Prelude.{◌≤◌, min, length};
+ghost use Rattle.job_tables.specs.inner.Opened.{tables};
 ghost use Rattle.lamp_fates.specs.inner.Memory.{Memory, memory_size};
 ghost use Rattle.line_finding.specs.inner.Finding.{Room, Finds};
 
@@ -73,7 +73,7 @@ pub fn find<const SIZE: usize>(
     words: &mut [u64],
 ) -> Result<u32, Failure>
     requires { Room (tables job.now) (length line.old) (length list.old) (length words.old)
-        × (memory_size (tables job.now) ≤ SIZE) × (SIZE ≤ 66560) }
+        × (min (memory_size (tables job.now)) 66560 ≤ SIZE) × (SIZE ≤ 66560) }
     ensures { Finds (tables job.now) longest result line.old line.new }
 {
     let mut memory = [0u16; SIZE];

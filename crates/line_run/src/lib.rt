@@ -6,7 +6,7 @@ ghost use Rattle.lamp_line.specs.Tables.{line_of, column_of, Kinds, Fits};
 ghost use Rattle.job_layout.specs.Layout.{job_columns};
 ghost use Rattle.lamp_line.specs.Run.{ran, run, limited};
 ghost use Rattle.job_layout.specs.JobTables.{tables_of};
-ghost use Rattle.job_tables.specs.Opened.{tables};
+ghost use Rattle.job_tables.specs.inner.Opened.{tables};
 ghost use Rattle.line_run.specs.RunAnswers.{run_answer_of, run_answer};
 
 use job_layout::Job;

@@ -4,7 +4,7 @@
 #![tactic(auto)]
 
 ghost use Rattle.std.specs.Prelude.{◌≡◌, ◌&&◌, ◌*◌, ◌≤◌, ◌<◌, eqb, length};
-ghost use Rattle.job_tables.specs.Opened.{tables};
+ghost use Rattle.job_tables.specs.inner.Opened.{tables};
 ghost use Rattle.lamp_fates.specs.inner.Memory.{Memory};
 ghost use Rattle.pair_bits.specs.Sum.{bit_at};
 ghost use Rattle.working_list.specs.inner.Listing.{table, Listed};
@@ -137,16 +137,14 @@ fn try_line(
     ensures { TriesLine (tables job.now) (table (tables job.now) list.now count)
         member kind words.now result memory.new }
 {
-    let mut end = 0;
-    loop {
-        let Some(pair) = try_end(job, memory, list, words, count, member, kind, end)? else {
-            return Ok(None);
-        };
-        if end == job.head.ends {
-            return Ok(Some(pair));
+    let mut found = None;
+    for end in 0..=job.head.ends {
+        found = try_end(job, memory, list, words, count, member, kind, end)?;
+        if found.is_none() {
+            break;
         }
-        end += 1;
     }
+    Ok(found)
 }
 
 // Tries a line from one member, and answers how many pairs the list then holds. A new pair is put in the list, if the line is still clean:

@@ -1,9 +1,21 @@
--- The entries of a log: how many the first n are, and that the first k of them are their beginning.
-use Rattle.std.proofs.Common.{◌≡◌, refl, sym, ap, ◌∙◌, List, [], ◌∷◌, ◌++◌, append_assoc, append-nil, ℕ, zero, suc, ◌≤◌, arith, length, take, length-append, take_all}
+-- The entries of a log: the pairs of its bytes, how many the first n are, and that the first k of them are their beginning.
+use Rattle.std.proofs.Common.{◌≡◌, refl, sym, ap, ◌∙◌, List, [], ◌∷◌, ◌++◌, append_assoc, append-nil, ℕ, zero, suc, ◌+◌, ◌*◌, ◌≤◌, ◌<◌, arith, length, get_or, take, length-append, take_all}
+use Rattle.std.specs.Simd.{first_chunks}
 use native.Mathlib.Decide.{ℕ_discrete}
 use lib.Seq.{take-append-le}
 use Rattle.plans.specs.Execution.{Label}
+use Rattle.lamp_line.proofs.PairsOfBytes.{byte_of_pair}
 use Rattle.log_replay.specs.Logs.{log_entry, first_entries}
+
+-- ---- the bytes in pairs
+
+-- The pair i holds entry i.
+pub entry_of_pair : (log : List ℕ) (n i : ℕ) → i < n → log_entry (get_or (first_chunks 2 n log) i []) 0 ≡ log_entry log i
+entry_of_pair log n i i< =
+    let e : 2 * i + 0 ≡ 2 * i = omega arith in
+    rw (byte_of_pair log n i 0 i< (omega arith), e, byte_of_pair log n i 1 i< (omega arith))
+
+-- ---- the entries
 
 module _ (log : List ℕ) where
   pub length_entries : (n : ℕ) → length (first_entries log n) ≡ n

@@ -1,30 +1,30 @@
 -- What the tests of the replay say: whether the plan acts so, whether an entry is wrong, and which refusal applies.
-use Rattle.std.proofs.Common.{◌≡◌, refl, sym, ap, subst, ◌∙◌, ◌≢◌, Bool, true, false, ◌||◌, List, [], ◌∷◌, Option, None, Some, Err, ℕ, ◌+◌, ◌<◌, eq-eqb, ne_eqb, eqb, leb}
+use Rattle.std.proofs.Common.{◌≡◌, refl, sym, ap, subst, ◌∙◌, ◌≢◌, Bool, true, false, not, ◌||◌, List, [], ◌∷◌, Option, None, Some, Err, ℕ, ◌+◌, ◌*◌, ◌/◌, ◌<◌, arith, length, get_or, eq-eqb, ne_eqb, eqb, leb}
+use Rattle.std.specs.List.{list_any}
+use Rattle.std.specs.Simd.{first_chunks}
 use Rattle.plans.specs.Plan.{Action}
-use Rattle.plans.specs.Execution.{Label, action_of, result_of}
 use Rattle.lamp_line.specs.declared.ProgramState.{ProgramState}
 use Rattle.lamp_line.specs.declared.Refusal.{Refusal}
 use Rattle.lamp_line.specs.declared.Refusal.TheVariants as refused
-use Rattle.lamp_line.specs.Refusals.{◌when◌, refusal}
-use Rattle.lamp_line.proofs.Scan.{NoneYet, none_yet_more, scan_finds}
+use Rattle.lamp_line.specs.Refusals.{◌when◌, refusal, some_below}
+use Rattle.lamp_line.proofs.Scan.{any_by_place}
 use Rattle.job_layout.specs.declared.Job.{Job}
 use Rattle.job_layout.specs.JobTables.{tables_of}
 use Rattle.job_file.specs.Reading.{reading_of, Opened}
 use Rattle.job_file.proofs.Opening.{first_of_refused, first_of_opened}
 use Rattle.job_tables.proofs.Ranges.{states_are, actions_are, results_are}
-use Rattle.log_candidates.specs.declared.LogEntry.{LogEntry}
 use Rattle.log_replay.specs.declared.ReplayError.TheVariants.{Refused}
-use Rattle.log_replay.specs.Logs.{log_entry, entry_count}
+use Rattle.log_replay.specs.Logs.{entry_count}
 use Rattle.log_replay.specs.ReplayAnswers.{log_size_wrong, entry_wrong, entries_wrong, replay_refusals, ReplayAnswer, ReplayedRight, ReplayedBy, Replayed}
-use Rattle.log_candidates.specs.inner.WorldSets.{label_of}
 use Rattle.log_replay.specs.inner.Acting.{acts_so}
+use Rattle.lamp_line.proofs.PairsOfBytes.{count_of_pairs, byte_of_pair}
 
 -- ---- the plan's action
 
 module _ (s : List ℕ) {j : Job} (opened : Opened s j) (q : ProgramState) where
   -- The plan has ended.
-  pub ended_acts_not : (a : Action) → q.0 ≡ j.states → false ≡ acts_so (tables_of s) q a
-  ended_acts_not a ended = rw (eq-eqb _ _ (ended ∙ states_are s j opened))
+  pub ended_acts_not : (a : Action) → q.0 ≡ j.states → not (eqb q.0 j.states) ≡ acts_so (tables_of s) q a
+  ended_acts_not a ended = rw (eq-eqb _ _ ended, eq-eqb _ _ (ended ∙ states_are s j opened))
 
   -- It has not: the action decides.
   pub action_decides : (a : Action) {b : Action} → q.0 ≢ j.states → b ≡ (tables_of s).action q → eqb a b ≡ acts_so (tables_of s) q a
@@ -33,22 +33,21 @@ module _ (s : List ℕ) {j : Job} (opened : Opened s j) (q : ProgramState) where
 
 -- ---- wrong entries
 
-module _
-    (actions results : ℕ) (log : List ℕ) {i : ℕ} (before : NoneYet (entry_wrong actions results log) (entry_count log) i)
-    (more : i < entry_count log) {entry : LogEntry} (read : label_of entry ≡ log_entry log i)
-  where
-    same_test : (leb actions entry.action || leb results entry.result) ≡ entry_wrong actions results log i
-    same_test = ap (λ (l : Label). leb actions (action_of l) || leb results (result_of l)) read
+module _ (actions results : ℕ) where
+  -- The test of an entry's two bytes.
+  abbrev pub pair_wrong : List ℕ → Bool
+  pair_wrong entry = leb actions (get_or entry 0 0) || leb results (get_or entry 1 0)
 
-    -- Entry i is wrong.
-    pub wrong_here : (leb actions entry.action || leb results entry.result) ≡ true → true ≡ entries_wrong actions results log
-    wrong_here wrong = scan_finds before more (sym same_test ∙ wrong)
-
-    -- It is not.
-    pub right_here :
-        (leb actions entry.action || leb results entry.result) ≡ false →
-        NoneYet (entry_wrong actions results log) (entry_count log) (i + 1)
-    right_here right = none_yet_more before more (sym same_test ∙ right)
+  -- Some pair of bytes is wrong exactly when some entry is.
+  pub any_pair_wrong : (log : List ℕ) → list_any pair_wrong (first_chunks 2 (length log / 2) log) ≡ entries_wrong actions results log
+  any_pair_wrong log =
+      let count : length (first_chunks 2 (entry_count log) log) ≡ entry_count log = count_of_pairs (entry_count log) log in
+      any_by_place pair_wrong (entry_wrong actions results log) (first_chunks 2 (entry_count log) log) []
+      (λ i i<.
+      let i<count : i < entry_count log = omega (arith, count) in
+      let e : 2 * i + 0 ≡ 2 * i = omega arith in
+      rw (byte_of_pair log (entry_count log) i 0 i<count (omega arith), e, byte_of_pair log (entry_count log) i 1 i<count (omega arith)))
+      ∙ ap (λ (n : ℕ). some_below n (entry_wrong actions results log)) count
 
 -- ---- the refusals
 

@@ -32,13 +32,13 @@ impl From<Refusal> for ReplayError {
     }
 }
 
-fn read_entry(log: &[u8], i: usize) -> LogEntry
-    requires { i < entry_count log.now }
-    ensures { label_of result ≡ log_entry log.now i }
+// The entry that a pair of bytes holds.
+fn entry_of(bytes: &[u8; 2]) -> LogEntry
+    ensures { label_of result ≡ log_entry bytes.now 0 }
 {
     LogEntry {
-        action: log[2 * i],
-        result: log[2 * i + 1],
+        action: bytes[0],
+        result: bytes[1],
     }
 }
 
@@ -52,14 +52,8 @@ fn log_size_wrong(log: &[u8]) -> bool
 fn entries_wrong(log: &[u8], actions: u8, results: u8) -> bool
     ensures { result ≡ entries_wrong actions results log.now }
 {
-    let entries = log.len() / 2;
-    for i in 0..entries {
-        let entry = read_entry(log, i);
-        if (actions <= entry.action) | (results <= entry.result) {
-            return true;
-        }
-    }
-    false
+    let (entries, _) = log.as_chunks::<2>();
+    entries.iter().any(|[action, sensed]| (actions <= *action) | (results <= *sensed))
 }
 
 // The plan has not ended in this program state, and its action there is this one.
@@ -67,10 +61,7 @@ fn acts(job: &OpenJob, state: ProgramState, action: u8) -> bool
     requires { state.0 ≤ job.now.head.states }
     ensures { result ≡ acts_so (tables_of job.now.file.now) state action }
 {
-    if state.0 == job.head.states {
-        return false;
-    }
-    action == job.action(state)
+    state.0 != job.head.states && action == job.action(state)
 }
 
 // Follows one entry from the program state and the candidates: none if it cannot be made, or the program state to which it leads. The
@@ -99,11 +90,11 @@ fn replay_in_job(job: &OpenJob, log: &[u8]) -> Result<(), ReplayError>
     requires { (length log.now ≤ 65534) × (entries_wrong job.now.head.actions job.now.head.results log.now ≡ false) }
     ensures { ReplayedRight (tables_of job.now.file.now) log.now result }
 {
-    let count = log.len() / 2;
+    let (entries, _) = log.as_chunks::<2>();
     let mut state = job.head.first;
     let mut candidates = Candidates::first(job);
-    for i in 0..count {
-        let Some(to) = follow_entry(job, state, read_entry(log, i), &mut candidates) else {
+    for (i, bytes) in entries.iter().enumerate() {
+        let Some(to) = follow_entry(job, state, entry_of(bytes), &mut candidates) else {
             return Err(ReplayError::ImpossibleAt(i as u16));
         };
         state = to;

@@ -27,21 +27,28 @@ module _ (ws : List ℕ) (i : ℕ) {word : ℕ} (room : i < length ws * 64) (wit
 
 -- ---- words written as 0
 
+-- The first n words are 0.
+pub record Zeros (ws : List ℕ) (n : ℕ) : Type 0 where
+  pub zero_at : (i : ℕ) → i < n → get_or ws i 0 ≡ 0
+
+-- Words that are 0 have no bit set.
+pub zeros_cleared : {ws : List ℕ} {n : ℕ} → Zeros ws n → (m : ℕ) → m / 64 + (m % 64 + 63) / 64 ≤ n → Cleared ws m
+unfolding Cleared bit_at
+zeros_cleared zeros m h i l = rw (zeros.zero_at (i / 64) (omega arith)) (none_in_zero (i % 64))
+
 -- The number of the words that hold the first n bits.
 abbrev pub held_by : ℕ → ℕ
 held_by n = n / 64 + (n % 64 + 63) / 64
 
 -- If these words are written as 0, none of the first n bits is set.
-pub zeros_cleared :
+pub filled_cleared :
     (ws : List ℕ) (n : ℕ) → n ≤ length ws * 64 → Cleared (replicate (length (take (held_by n) ws)) 0 ++ drop (held_by n) ws) n
-unfolding Cleared bit_at
-zeros_cleared ws n room i l = rw zero_at (none_in_zero (i % 64))
+filled_cleared ws n room = zeros_cleared (record { zero_at = zero_at }) n (omega (arith, length-take (held_by n) ws))
   where
     count : ℕ
     count = length (take (held_by n) ws)
 
-    zero_at : get_or (replicate count 0 ++ drop (held_by n) ws) (i / 64) 0 ≡ 0
-    zero_at =
-        let within : i / 64 < count = omega (arith, length-take (held_by n) ws) in
-        get_or_append_left (replicate count 0) (drop (held_by n) ws) 0 (i / 64) (rw length-replicate within)
-        ∙ get_or-replicate count (i / 64) 0 0 within
+    zero_at : (i : ℕ) → i < count → get_or (replicate count 0 ++ drop (held_by n) ws) i 0 ≡ 0
+    zero_at i within =
+        get_or_append_left (replicate count 0) (drop (held_by n) ws) 0 i (rw length-replicate within)
+        ∙ get_or-replicate count i 0 0 within

@@ -5,22 +5,24 @@
 #![tactic(auto)]
 
 ghost use Rattle.std.specs.Prelude.{◌≡◌, ◌<◌};
-ghost use Rattle.job_layout.specs.FileRefusals.{action_wrong, row_wrong, target_wrong};
+ghost use Rattle.job_layout.specs.FileRefusals.{action_wrong_at, action_wrong, row_wrong, target_wrong};
 
 use job_layout::LaidJob;
 use lamp_line::ProgramState;
+
+// The action of a program state is out of range.
+fn action_wrong_at(laid: &LaidJob, state: u8) -> bool
+    requires { state < laid.now.head.states }
+    ensures { result ≡ action_wrong_at laid.now.file.now laid.now.head state }
+{
+    laid.head.actions <= laid.file[laid.head.action_place(ProgramState(state))]
+}
 
 // Refusal 10 applies.
 pub fn action_wrong(laid: &LaidJob) -> bool
     ensures { result ≡ action_wrong laid.now.file.now laid.now.head }
 {
-    for q in 0..laid.head.states {
-        let at = laid.head.action_place(ProgramState(q));
-        if laid.head.actions <= laid.file[at] {
-            return true;
-        }
-    }
-    false
+    (0..laid.head.states).any(|state| action_wrong_at(laid, state))
 }
 
 // One of the targets of a program state is wrong.
@@ -39,10 +41,5 @@ fn row_wrong(laid: &LaidJob, state: u8) -> bool
 pub fn target_wrong(laid: &LaidJob) -> bool
     ensures { result ≡ target_wrong laid.now.file.now laid.now.head }
 {
-    for q in 0..laid.head.states {
-        if row_wrong(laid, q) {
-            return true;
-        }
-    }
-    false
+    (0..laid.head.states).any(|state| row_wrong(laid, state))
 }

@@ -25,10 +25,11 @@ use Rattle.working_list.specs.inner.Placing.{entries, MemberOf, Chained}
 use Rattle.working_list.specs.inner.Listing.{table, Listed}
 use Rattle.line_trial.specs.inner.Trials.{Ready}
 use Rattle.plan_search.specs.inner.Searching.{NoneMet, Searched}
-use Rattle.plan_search.proofs.Sweeps.{held_few, at_line, Members, LineFails}
+use Rattle.plan_search.proofs.Sweeps.{held_few, line_at, Members, LineFails}
 use Rattle.working_list.proofs.EntryLaws.{entries_none}
 use Rattle.working_list.proofs.ListLaws.{listed_empty, count_fits, table_length}
 use Rattle.line_trial.proofs.TryingEnds.{ready_tables}
+use Rattle.std.specs.Prelude.{Err}
 
 -- ---- a line that fails
 
@@ -37,7 +38,7 @@ line_met :
     {s : List ℕ} {j : Job} {memory list words : List ℕ} {n longest lamps end : ℕ} {kind : FailureKind} → Ready s j memory →
     Listed (tables_by s j) list words n → (w k : ℕ) → verdict_of (tables_by s j) ≡ failing (table (tables_by s j) list n) k kind w end →
     lamps ≡ length (line_lamps (table (tables_by s j) list n) w k) → MemberOf n w k → lamps ≤ longest →
-    Searched (tables_by s j) longest (at_line kind end n w k lamps) list
+    Searched (tables_by s j) longest (Err (line_at kind end n w k lamps)) list
 line_met {list = list} {n = n} ready listed w k is lamps_are member short =
     record {
       so = record {
@@ -182,7 +183,7 @@ module _
     -- The line fails: it is what the search finds.
     pub kind_failed :
         {failure : FailureKind} {end w m : ℕ} {list' words' : List ℕ} → LineFails t list n from to kind list' words' m failure end w →
-        Searched t longest (at_line failure end m w kind lamps) list'
+        Searched t longest (Err (line_at failure end m w kind lamps)) list'
     kind_failed {failure} {end} {w} {m} {list'} line =
         line_met at.ready line.listed w kind
         (at.verdict_is ∙ ap conclusion (kind_answers t at.fuel E from to last kind next here line.answer_is))

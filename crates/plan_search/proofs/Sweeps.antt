@@ -1,7 +1,6 @@
 -- The loop over the members of a line: what is left to be tried gives what the whole line gives.
 use mathlib.Core.Path.{◌≡◌, refl, sym, ap, subst, ◌∙◌}
-use mathlib.Core.Logic.{◌⊎◌, inl, inr}
-use mathlib.Core.Bool.{Bool, true, false}
+use mathlib.Core.Bool.{Bool}
 use mathlib.Core.List.{List}
 use Prim.Native.Nat.{ℕ, ◌+◌, ◌≤◌, ◌<◌}
 use native.Mathlib.Omega.{arith}
@@ -22,7 +21,8 @@ use Rattle.line_trial.specs.inner.Trials.{Ready}
 use Rattle.line_trial.specs.declared.FailingEnd.{FailingEnd}
 use Rattle.line_trial.specs.inner.Turning.{Grows, stays, adds, Keeps, grows, was_quiet, was_new, Turned}
 use Rattle.plan_search.specs.declared.FailingLine.{FailingLine}
-use Rattle.std.specs.Prelude.{Result, Ok, Err}
+use Rattle.std.proofs.Math.Bool.{not-not}
+use Rattle.std.specs.Prelude.{⊤, Option, None, Some, is_some, is_none, not, MatchOption, Result, Ok, Err}
 
 -- The list holds at most 65 times 64 pairs.
 pub held_few :
@@ -35,33 +35,46 @@ pub record Members (t : Tables) (n to kind : ℕ) : Type 0 where
   pub places : 1 ≤ kind → to ≤ n
   pub kind_range : kind ≤ t.kinds
 
--- The answer that a line fails.
-abbrev pub at_line : FailureKind → ℕ → ℕ → ℕ → ℕ → ℕ → Result ℕ FailingLine
-at_line failure end n w k lamps = Err (record { failure = failure; end = end; count = n; member = w; kind = k; lamps = lamps })
+-- The line that fails from the member w.
+abbrev pub line_at : FailureKind → ℕ → ℕ → ℕ → ℕ → ℕ → FailingLine
+line_at failure end n w k lamps = record { failure = failure; end = end; count = n; member = w; kind = k; lamps = lamps }
 
--- What the members from i on give, where the list holds the n entries of E: the line has failed from none of those before them; or it has,
--- and its failure from the member w is the first so far. That is not one with the lowest end, since the search ends there.
-pub data Gives
-    (t : Tables) (before : ℕ) (E : List Entry) (n from to k lamps i : ℕ) (clean : Bool) (lowest : ℕ) (ended : Result ℕ FailingLine) (r : Turn) :
-    Type 0 where
-  none_failed : clean ≡ true → r ≡ members_left t before E i to k → Gives t before E n from to k lamps i clean lowest ended r
-  some_failed :
-      (w : ℕ) (kind : FailureKind) → clean ≡ false → ended ≡ at_line kind lowest n w k lamps → from ≤ w → w < to → 0 < lowest →
-      r ≡ answers (lowest_left t E i to k kind w lowest) → Gives t before E n from to k lamps i clean lowest ended r
+-- The line has failed from members before i, and this is the first of those failures that has the lowest end: what it and the members from
+-- i on give. Its end is not 0, since the search ends at such a failure.
+pub record Lowest (t : Tables) (E : List Entry) (n from to k lamps i : ℕ) (r : Turn) (line : FailingLine) : Type 0 where
+  pub line_is : line ≡ line_at line.failure line.end n line.member k lamps
+  pub low : from ≤ line.member
+  pub high : line.member < to
+  pub above : 0 < line.end
+  pub gives : r ≡ answers (lowest_left t E i to k line.failure line.member line.end)
+
+-- What the members from i on give, where the list holds the n entries of E: the line has failed from none of those before them, or it has,
+-- and this is its failure so far.
+abbrev pub Gives : Tables → ℕ → List Entry → ℕ → ℕ → ℕ → ℕ → ℕ → ℕ → Turn → Option FailingLine → Type 0
+Gives t before E n from to k lamps i r None = r ≡ members_left t before E i to k
+Gives t before E n from to k lamps i r (Some line) = Lowest t E n from to k lamps i r line
+
+-- The failure so far stays, whatever the member i does.
+lowest_on :
+    {t : Tables} {E : List Entry} {n from to k lamps i : ℕ} {r : Turn} {line : FailingLine} → Lowest t E n from to k lamps i r line →
+    lowest_left t E i to k line.failure line.member line.end ≡ lowest_left t E (i + 1) to k line.failure line.member line.end →
+    Lowest t E n from to k lamps (i + 1) r line
+lowest_on lowest same =
+    record { line_is = lowest.line_is; low = lowest.low; high = lowest.high; above = lowest.above; gives = lowest.gives ∙ ap answers same }
 
 -- A line with this number of lamps is tried from the members from i on. The list held `before` pairs before it was tried; it holds n now.
 -- What is left gives what the whole line gives.
 pub record Sweeping
-    (s : List ℕ) (j : Job) (list₀ : List ℕ) (before from to k lamps : ℕ) (memory list words : List ℕ) (n : ℕ) (clean : Bool) (lowest : ℕ)
-    (ended : Result ℕ FailingLine) (i : ℕ) : Type 0 where
+    (s : List ℕ) (j : Job) (list₀ : List ℕ) (before from to k lamps : ℕ) (memory list words : List ℕ) (n : ℕ)
+    (so_far : Option FailingLine) (i : ℕ) : Type 0 where
   pub ready : Ready s j memory
   pub listed : Listed (tables_by s j) list words n
   pub members : Members (tables_by s j) before to k
   pub low : from ≤ i
   pub more : before ≤ n
   pub gives :
-      Gives (tables_by s j) before (table (tables_by s j) list n) n from to k lamps i clean lowest ended
-      (line_tried (tables_by s j) (table (tables_by s j) list₀ before) from to k)
+      Gives (tables_by s j) before (table (tables_by s j) list n) n from to k lamps i
+      (line_tried (tables_by s j) (table (tables_by s j) list₀ before) from to k) so_far
 
 -- The line fails from the member w, with this kind of end.
 pub record LineFails
@@ -74,10 +87,9 @@ pub record LineFails
 
 -- No member was tried yet.
 pub sweeping_begins :
-    {s : List ℕ} {j : Job} {memory list words : List ℕ} {n from to k lamps lowest : ℕ} {clean : Bool} {ended : Result ℕ FailingLine} → Ready s j memory →
-    Listed (tables_by s j) list words n → Members (tables_by s j) n to k → clean ≡ true →
-    Sweeping s j list n from to k lamps memory list words n clean lowest ended from
-sweeping_begins {s} {j} {memory} {list} {words} {n} {from} {to} {k} ready listed members none =
+    {s : List ℕ} {j : Job} {memory list words : List ℕ} {n from to k lamps : ℕ} → Ready s j memory → Listed (tables_by s j) list words n →
+    Members (tables_by s j) n to k → Sweeping s j list n from to k lamps memory list words n None from
+sweeping_begins {s} {j} {memory} {list} {words} {n} {from} {to} {k} ready listed members =
     record {
       ready = ready;
       listed = listed;
@@ -87,12 +99,12 @@ sweeping_begins {s} {j} {memory} {list} {words} {n} {from} {to} {k} ready listed
       gives =
           let t = tables_by s j in
           let E = table t list n in
-          none_failed none (line_begins t E from to k ∙ ap (λ (m : ℕ). members_left t m E from to k) (table_length listed));
+          line_begins t E from to k ∙ ap (λ (m : ℕ). members_left t m E from to k) (table_length listed);
     }
 
 module _
-    {s : List ℕ} {j : Job} {list₀ : List ℕ} {before from to k lamps : ℕ} {memory list words : List ℕ} {n : ℕ} {clean : Bool} {lowest : ℕ}
-    {ended : Result ℕ FailingLine} {i : ℕ} (at : Sweeping s j list₀ before from to k lamps memory list words n clean lowest ended i) where
+    {s : List ℕ} {j : Job} {list₀ : List ℕ} {before from to k lamps : ℕ} {memory list words : List ℕ} {n : ℕ} {so_far : Option FailingLine} {i : ℕ}
+    (at : Sweeping s j list₀ before from to k lamps memory list words n so_far i) where
   abbrev t : Tables
   t = tables_by s j
 
@@ -105,13 +117,13 @@ module _
 
   module _ (here : i < to) where
     module _
-        {r : Result ℕ FailingEnd} {list' words' memory' : List ℕ} (turned : Turned t list n before i k clean r list' words')
-        (remembers : Memory t memory') where
-      turned_as : {u : Result ℕ FailingEnd} → r ≡ u → Turned t list n before i k clean u list' words'
-      turned_as is = subst (λ (u : Result ℕ FailingEnd). Turned t list n before i k clean u list' words') is turned
+        {clean : Bool} (clean_is : is_some so_far ≡ not clean) {r : Result ℕ FailingEnd} {list' words' memory' : List ℕ}
+        (turned : Turned t list n before i k clean r list' words') (remembers : Memory t memory') where
+      turned_as : {u : Result ℕ FailingEnd} → r ≡ u → Turned t list n before i k (is_none so_far) u list' words'
+      turned_as is = rw (clean_is, not-not clean, ← is) turned
 
       -- The line does not fail from it: the next member is tried.
-      pub sweeping_on : {m : ℕ} → r ≡ Ok m → Sweeping s j list₀ before from to k lamps memory' list' words' m clean lowest ended (i + 1)
+      pub sweeping_on : {m : ℕ} → r ≡ Ok m → Sweeping s j list₀ before from to k lamps memory' list' words' m so_far (i + 1)
       sweeping_on {m} is =
           let (keeps, listed, more) = (turned_as is).so in
           record {
@@ -120,7 +132,7 @@ module _
             members = at.members;
             low = omega (arith, at.low);
             more = omega (arith, at.more);
-            gives = on at.gives keeps;
+            gives = on so_far at.gives keeps;
           }
         where
           grown_on :
@@ -129,24 +141,18 @@ module _
           grown_on (adds e same) = rw same (member_finds t before E i to k here e)
 
           -- After a failure the list stays as it is.
-          still :
-              (w : ℕ) (kind : FailureKind) → clean ≡ false → ended ≡ at_line kind lowest n w k lamps → from ≤ w → w < to → 0 < lowest →
-              whole ≡ answers (lowest_left t E (i + 1) to k kind w lowest) → list' ≡ list → m ≡ n →
-              Gives t before (table t list' m) m from to k lamps (i + 1) clean lowest ended whole
-          still w kind some ended_is w_low w_high above e same count =
-              rw (same, count) (some_failed w kind some ended_is w_low w_high above e)
-
           on :
-              Gives t before E n from to k lamps i clean lowest ended whole → Keeps t list n before i k list' m clean →
-              Gives t before (table t list' m) m from to k lamps (i + 1) clean lowest ended whole
-          on (none_failed none e) (grows is_clean g) = none_failed none (e ∙ grown_on g)
-          on (none_failed none e) (was_quiet some q same count) = absurd (let z : ◌≡◌ {A = ℕ} 0 1 = cc in omega arith)
-          on (none_failed none e) (was_new some q same count) = absurd (let z : ◌≡◌ {A = ℕ} 0 1 = cc in omega arith)
-          on (some_failed w kind some ended_is w_low w_high above e) (grows none g) = absurd (let z : ◌≡◌ {A = ℕ} 0 1 = cc in omega arith)
-          on (some_failed w kind some ended_is w_low w_high above e) (was_quiet _ q same count) =
-              still w kind some ended_is w_low w_high above (e ∙ ap answers (lowest_quiet t E i to k kind w lowest here q)) same count
-          on (some_failed w kind some ended_is w_low w_high above e) (was_new _ q same count) =
-              still w kind some ended_is w_low w_high above (e ∙ ap answers (lowest_finds t E i to k kind w lowest here q)) same count
+              (so_far : Option FailingLine) → Gives t before E n from to k lamps i whole so_far →
+              Keeps t list n before i k list' m (is_none so_far) →
+              Gives t before (table t list' m) m from to k lamps (i + 1) whole so_far
+          on None e (grows none g) = e ∙ grown_on g
+          on None e (was_quiet some q same count) = absurd (let z : ◌≡◌ {A = ℕ} 0 1 = cc in omega arith)
+          on None e (was_new some q same count) = absurd (let z : ◌≡◌ {A = ℕ} 0 1 = cc in omega arith)
+          on (Some line) lowest (grows none g) = absurd (let z : ◌≡◌ {A = ℕ} 0 1 = cc in omega arith)
+          on (Some line) lowest (was_quiet some q same count) =
+              rw (same, count) (lowest_on lowest (lowest_quiet t E i to k line.failure line.member line.end here q))
+          on (Some line) lowest (was_new some q same count) =
+              rw (same, count) (lowest_on lowest (lowest_finds t E i to k line.failure line.member line.end here q))
 
       -- The line fails from it.
       module _ {fails : FailingEnd} (is : r ≡ Err fails) where
@@ -160,9 +166,9 @@ module _
         failed_so = (turned_as is).so
 
         next :
-            {clean' : Bool} {lowest' : ℕ} {ended' : Result ℕ FailingLine} → Gives t before E n from to k lamps (i + 1) clean' lowest' ended' whole →
-            Sweeping s j list₀ before from to k lamps memory' list' words' n clean' lowest' ended' (i + 1)
-        next {clean'} {lowest'} {ended'} gives =
+            (so_far' : Option FailingLine) → Gives t before E n from to k lamps (i + 1) whole so_far' →
+            Sweeping s j list₀ before from to k lamps memory' list' words' n so_far' (i + 1)
+        next so_far' gives =
             record {
               ready = record { opened = at.ready.opened; remembers = remembers };
               listed = failed_so.2;
@@ -170,46 +176,44 @@ module _
               low = omega (arith, at.low);
               more = at.more;
               gives =
-                  subst (λ (l : List ℕ). Gives t before (table t l n) n from to k lamps (i + 1) clean' lowest' ended' whole) (sym failed_so.1)
-                  gives;
+                  subst (λ (l : List ℕ). Gives t before (table t l n) n from to k lamps (i + 1) whole so_far') (sym failed_so.1) gives;
             }
 
         -- If it is the first failure, or one with a lower end, the members after it are tried for one with an end that is lower still.
         first_so_far :
-            Gives t before E n from to k lamps i clean lowest ended whole → (clean ≡ true) ⊎ (end' < lowest) →
-            whole ≡ answers (lowest_left t E (i + 1) to k kind' i end')
-        first_so_far (none_failed none e) first = e ∙ member_fails t before E i to k here failed_so.0
-        first_so_far (some_failed w kind some ended_is w_low w_high above e) (inl none) =
-            absurd (let z : ◌≡◌ {A = ℕ} 0 1 = cc in omega arith)
-        first_so_far (some_failed w kind some ended_is w_low w_high above e) (inr lower) =
-            e ∙ ap answers (lowest_lower t E i to k kind w lowest here failed_so.0 lower)
+            (so_far : Option FailingLine) → Gives t before E n from to k lamps i whole so_far →
+            MatchOption so_far ⊤ (λ line. end' < line.end) → whole ≡ answers (lowest_left t E (i + 1) to k kind' i end')
+        first_so_far None e _ = e ∙ member_fails t before E i to k here failed_so.0
+        first_so_far (Some line) lowest lower =
+            lowest.gives ∙ ap answers (lowest_lower t E i to k line.failure line.member line.end here failed_so.0 lower)
 
-        -- Its failure is named so far.
+        -- Its failure is the one so far.
         pub sweeping_fails :
-            0 < end' → (clean ≡ true) ⊎ (end' < lowest) →
-            Sweeping s j list₀ before from to k lamps memory' list' words' n false end' (at_line kind' end' n i k lamps) (i + 1)
+            0 < end' → MatchOption so_far ⊤ (λ line. end' < line.end) →
+            Sweeping s j list₀ before from to k lamps memory' list' words' n (Some (line_at kind' end' n i k lamps)) (i + 1)
         sweeping_fails above first =
-            next (some_failed i kind' refl refl at.low here above (first_so_far at.gives first))
+            next (Some (line_at kind' end' n i k lamps))
+            (record { line_is = refl; low = at.low; high = here; above = above; gives = first_so_far so_far at.gives first })
 
-        -- Another was named, and this one has no lower end: the failure so far stays.
+        -- There was one, and this one has no lower end: the failure so far stays.
         pub sweeping_keeps :
-            clean ≡ false → lowest ≤ end' → Sweeping s j list₀ before from to k lamps memory' list' words' n clean lowest ended (i + 1)
-        sweeping_keeps some no_lower = next (go at.gives)
+            MatchOption so_far ⊥ (λ line. line.end ≤ end') →
+            Sweeping s j list₀ before from to k lamps memory' list' words' n so_far (i + 1)
+        sweeping_keeps no_lower = next so_far (go so_far at.gives no_lower)
           where
             go :
-                Gives t before E n from to k lamps i clean lowest ended whole →
-                Gives t before E n from to k lamps (i + 1) clean lowest ended whole
-            go (none_failed none e) = absurd (let z : ◌≡◌ {A = ℕ} 0 1 = cc in omega arith)
-            go (some_failed w kind _ ended_is w_low w_high above e) =
-                some_failed w kind some ended_is w_low w_high above
-                (e ∙ ap answers (lowest_kept t E i to k kind w lowest here failed_so.0 no_lower))
+                (so_far : Option FailingLine) → Gives t before E n from to k lamps i whole so_far →
+                MatchOption so_far ⊥ (λ line. line.end ≤ end') → Gives t before E n from to k lamps (i + 1) whole so_far
+            go None e no_lower = absurd no_lower
+            go (Some line) lowest no_lower =
+                lowest_on lowest (lowest_kept t E i to k line.failure line.member line.end here failed_so.0 no_lower)
 
         -- It has the lowest end: it is the line's failure, whatever the members after it do.
         pub sweeping_lowest : end' ≡ 0 → LineFails t list₀ before from to k list' words' n kind' end' i
         sweeping_lowest lowest_end =
             record {
               answer_is =
-                  first_so_far at.gives (first at.gives)
+                  first_so_far so_far at.gives (first so_far at.gives)
                   ∙ ap answers
                   (ap (λ (e : ℕ). lowest_left t E (i + 1) to k kind' i e) lowest_end ∙ lowest_at_0 t E (i + 1) to k kind' i
                   ∙ ap (λ (e : ℕ). failing E k kind' i e) (sym lowest_end)
@@ -220,40 +224,33 @@ module _
               more = at.more;
             }
           where
-            first : Gives t before E n from to k lamps i clean lowest ended whole → (clean ≡ true) ⊎ (end' < lowest)
-            first (none_failed none e) = inl none
-            first (some_failed w kind some ended_is w_low w_high above e) = inr (omega arith)
+            first :
+                (so_far : Option FailingLine) → Gives t before E n from to k lamps i whole so_far →
+                MatchOption so_far ⊤ (λ line. end' < line.end)
+            first None e = tt
+            first (Some line) lowest = omega (arith, lowest.above)
 
   -- All members were tried.
   module _ (past : to ≤ i) where
     -- The line has failed from none: the search goes on.
-    pub sweeping_done : clean ≡ true → whole ≡ goes_on E
-    sweeping_done none = go at.gives
-      where
-        go : Gives t before E n from to k lamps i clean lowest ended whole → whole ≡ goes_on E
-        go (none_failed _ e) = e ∙ members_done t before E i to k past
-        go (some_failed w kind some ended_is w_low w_high above e) = absurd (let z : ◌≡◌ {A = ℕ} 0 1 = cc in omega arith)
+    pub sweeping_done : so_far ≡ None → whole ≡ goes_on E
+    sweeping_done none =
+        subst (λ (f : Option FailingLine). Gives t before E n from to k lamps i whole f) none at.gives ∙ members_done t before E i to k past
 
-    -- It has failed from some: the first failure is that of the line.
+    -- It has failed from some: the failure so far is that of the line.
     pub sweeping_failed :
-        clean ≡ false →
-        (w : ℕ) × (kind : FailureKind) × (ended ≡ at_line kind lowest n w k lamps) × LineFails t list₀ before from to k list words n kind lowest w
-    sweeping_failed some = go at.gives
-      where
-        go :
-            Gives t before E n from to k lamps i clean lowest ended whole →
-            (w : ℕ) × (kind : FailureKind) × (ended ≡ at_line kind lowest n w k lamps)
-            × LineFails t list₀ before from to k list words n kind lowest w
-        go (none_failed none e) = absurd (let z : ◌≡◌ {A = ℕ} 0 1 = cc in omega arith)
-        go (some_failed w kind _ ended_is w_low w_high above e) = (
-          w,
-          kind,
-          ended_is,
+        {line : FailingLine} → so_far ≡ Some line →
+        (line ≡ line_at line.failure line.end n line.member k lamps)
+        × LineFails t list₀ before from to k list words n line.failure line.end line.member
+    sweeping_failed {line} some =
+        let lowest : Lowest t E n from to k lamps i whole line =
+        subst (λ (f : Option FailingLine). Gives t before E n from to k lamps i whole f) some at.gives in (
+          lowest.line_is,
           record {
-            answer_is = e ∙ ap answers (lowest_done t E i to k kind w lowest past);
+            answer_is = lowest.gives ∙ ap answers (lowest_done t E i to k line.failure line.member line.end past);
             listed = at.listed;
-            low = w_low;
-            high = w_high;
+            low = lowest.low;
+            high = lowest.high;
             more = at.more;
           },
         )

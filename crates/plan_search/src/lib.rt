@@ -6,7 +6,7 @@
 #![tactic(auto)]
 
 ghost use Rattle.std.specs.Prelude.{◌+◌, ◌*◌, ◌≤◌, length};
-ghost use Rattle.job_tables.specs.Opened.{tables};
+ghost use Rattle.job_tables.specs.inner.Opened.{tables};
 ghost use Rattle.run_laws.specs.inner.Pairs.{pairs};
 ghost use Rattle.lamp_fates.specs.inner.Memory.{Memory};
 ghost use Rattle.plan_search.specs.inner.Searching.{Searched};
@@ -58,14 +58,14 @@ pub fn search_groups(
     let mut next = 0;
     let mut layer = 0;
     let mut lamps = 0;
-    loop {
+    'search: loop {
         for kind in first..last + 1 {
             let before = count;
-            let mut clean = true;
-            let mut lowest = 0;
-            let mut ended = Ok(0);
+            let mut failing: Option<FailingLine> = None;
             for member in from..to {
+                let clean = failing.is_none();
                 match try_member(job, memory, list, words, before, count, member, kind, clean) {
+                    Ok(held) => count = held,
                     Err(FailingEnd { failure, end }) => {
                         let line = FailingLine {
                             failure,
@@ -76,24 +76,21 @@ pub fn search_groups(
                             lamps,
                         };
                         if end == 0 {
-                            return Err(line);
+                            break 'search Err(line);
                         }
-                        if clean || end < lowest {
-                            clean = false;
-                            lowest = end;
-                            ended = Err(line);
+                        if failing.is_none_or(|lowest| end < lowest.end) {
+                            failing = Some(line);
                         }
                     }
-                    Ok(held) => count = held,
                 }
             }
-            if !clean {
-                return ended;
+            if let Some(line) = failing {
+                break 'search Err(line);
             }
         }
         if next == layer {
             if count == layer || longest < lamps + 1 {
-                return Ok(sum_bits(words, pairs) as u32);
+                break 'search Ok(sum_bits(words, pairs) as u32);
             }
             layer = count;
             lamps += 1;

@@ -69,7 +69,9 @@ pub fn read_field(rows: &mut impl Read, buffer: &mut [u8]) -> io::Result<usize>
 }
 
 // A field as the part of the buffer that it fills.
-pub fn read_slice<'a>(rows: &mut impl Read, buffer: &'a mut [u8]) -> io::Result<&'a [u8]> {
+pub fn read_slice<'a>(rows: &mut impl Read, buffer: &'a mut [u8]) -> io::Result<&'a [u8]>
+    ensures { IfOk result (λ part. length part.now ≤ length buffer.old) }
+{
     let size = read_field(rows, buffer)?;
     Ok(&buffer[..size])
 }

@@ -29,7 +29,7 @@ pub fn world_values(counts: &[u8], worlds: u8, world: WorldState, values: &mut [
 fn is_unwanted(wanted: u8, value: u8) -> bool
     ensures { result ≡ unwanted wanted value }
 {
-    (wanted != 255) & (wanted != value)
+    wanted != 255 && wanted != value
 }
 
 // A rule with these wanted values matches these values.

@@ -1,8 +1,8 @@
-// Refusal 22 (02, (e)): is a rules file one from which cells can be filled? `rules_wrong` asks nothing of its caller. A file of which it has
-// answered that it is not wrong is `Rules`, which is for the crates above and not for users.
+// Refusal 22 (02, (e)): is a rules file one from which cells can be filled? `rules_wrong` and `Rules::open` ask nothing of their caller. A file of
+// which it is answered that it is not wrong is `Rules`, whose functions are for the crates above and not for users.
 #![tactic(auto)]
 
-ghost use Rattle.std.specs.Prelude.{false, ◌≡◌, ◌+◌, ◌*◌, ◌≤◌, ◌<◌, length};
+ghost use Rattle.std.specs.Prelude.{true, false, ◌≡◌, ◌+◌, ◌*◌, ◌≤◌, ◌<◌, length, IfOk, IfErr};
 ghost use Rattle.fluent_rules.specs.Fluents.{world_count};
 ghost use Rattle.fluent_rules.specs.CellRules.{some_pair};
 ghost use Rattle.lamp_line.specs.Refusals.{some_below};
@@ -12,6 +12,7 @@ ghost use Rattle.rules_file.specs.RulesRefusal.{column_wrong, value_wrong, rule_
 
 use head_refusals::ranges_wrong;
 use job_layout::Sizes;
+use lamp_line::Refusal;
 
 // The numbers of the fluents, one for each, from byte `at` on.
 fn fluent_bytes(rules: &[u8], at: usize) -> &[u8]
@@ -100,12 +101,7 @@ fn any_rule_wrong(rules: &[u8], sizes: Sizes) -> bool
     requires { rules_place rules.now ≤ length rules.now }
     ensures { result ≡ some_below (rule_count rules.now) (λ i. rule_wrong sizes (value_counts rules.now) (rule_at rules.now i)) }
 {
-    for i in 0..rule_count(rules) {
-        if rule_wrong(rules, sizes, rule_place(rules, i)) {
-            return true;
-        }
-    }
-    false
+    (0..rule_count(rules)).any(|i| rule_wrong(rules, sizes, rule_place(rules, i)))
 }
 
 // Refusal 22 applies.
@@ -155,6 +151,19 @@ pub struct Rules<'a> {
 }
 
 impl<'a> Rules<'a> {
+    ghost use Rattle.lamp_line.specs.declared.Refusal.TheVariants as refused;
+
+    // Opens a rules file for these numbers, unless refusal 22 applies.
+    pub fn open(bytes: &'a [u8], sizes: Sizes) -> Result<Self, Refusal>
+        ensures opened { IfOk result (λ rules. (rules.bytes.now ≡ bytes.now) × (rules.sizes ≡ sizes)) }
+        ensures refused { IfErr result (λ because. (because ≡ refused.Rules) × (rules_wrong bytes.now sizes ≡ true)) }
+    {
+        if rules_wrong(bytes, sizes) {
+            return Err(Refusal::Rules);
+        }
+        Ok(Rules { bytes, sizes })
+    }
+
     // How many values each fluent has.
     pub fn counts(&self) -> &'a [u8]
         ensures { result.now ≡ value_counts self.now.bytes.now }

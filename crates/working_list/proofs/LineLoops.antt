@@ -114,17 +114,20 @@ pub record Writing (list line₀ : List ℕ) (member kind lamps : ℕ) (line : L
 module _
     {list line₀ line : List ℕ} {member kind lamps from lamp at : ℕ} (writing : Writing list line₀ member kind lamps line from lamp at) where
   -- A lamp is still to be written.
-  module _ (some : 0 < lamp) where
+  module _ (some : 0 < at) where
+    some_lamp : 0 < lamp
+    some_lamp = by (dec_lt 0 lamp)
+      where
+        by : Dec (0 < lamp) → 0 < lamp
+        by (yes is) = is
+        by (no none) = omega (arith, some, writing.left 0, ap length (empty_line_lamps (entries 0 list) from lamp (omega (arith, none))))
+
     -- The list has a word for the member.
     pub from_within : from < length list
-    from_within = writing.member_of.a_place some
+    from_within = writing.member_of.a_place some_lamp
 
     here : LampLine list from lamp
-    here = record { chained = writing.chained; lamp = some; within = from_within }
-
-    -- There is a byte left for the lamp.
-    pub some_left : 0 < at
-    some_left = omega (arith, writing.left 0, longer here 0)
+    here = record { chained = writing.chained; lamp = some_lamp; within = from_within }
 
     -- It is written, and the line by which the member's pair was found is left.
     pub writes_on :
@@ -132,7 +135,7 @@ module _
         Writing list line₀ member kind lamps (set line (at - 1) lamp) p.member p.kind (at - 1)
     writes_on is =
         let q = before here in
-        let back : at - 1 + 1 ≡ at = omega (arith, some_left) in
+        let back : at - 1 + 1 ≡ at = omega (arith, some) in
         rw is
         (record {
           chained = writing.chained;
@@ -147,5 +150,16 @@ module _
               ∙ ap (λ (m : List ℕ). m ++ drop at line) (lamps_back here worlds)
               ∙ ap (λ (i : ℕ). (line_lamps (entries worlds list) q.member q.kind ▸ lamp) ++ drop i line) (sym back)
               ∙ stored (line_lamps (entries worlds list) q.member q.kind) line (at - 1) lamp
-              (omega (arith, writing.room, some_left));
+              (omega (arith, writing.room, some));
         })
+
+  -- No lamp is still to be written.
+  pub all_written : at ≤ 0 → lamp ≡ 0
+  all_written none = by (dec_lt 0 lamp)
+    where
+      by : Dec (0 < lamp) → lamp ≡ 0
+      by (yes some) =
+          let last : LampLine list from lamp =
+          record { chained = writing.chained; lamp = some; within = writing.member_of.a_place some } in
+          absurd (omega (arith, none, writing.left 0, longer last 0))
+      by (no is) = omega (arith, is)

@@ -21,9 +21,7 @@ pub fn write_line(
 {
     let mut from = member;
     let mut lamp = kind;
-    let mut at = lamps;
-    while 0 < lamp {
-        at -= 1;
+    for at in (0..lamps).rev() {
         line[at] = lamp;
         let before = unpack(list[from]);
         from = before.member;

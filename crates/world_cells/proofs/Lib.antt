@@ -1,3 +1,4 @@
+pub mod CellWrites
 pub mod Columns
 pub mod RuleApplied
 pub mod RulesApplied

@@ -15,7 +15,7 @@ use Rattle.rules_file.proofs.RulesTested.{rules_right, rule_right}
 use Rattle.world_cells.specs.inner.CellsWritten.{cell_at, undecided, cell_number, OthersKept, Applied, WorldFilled}
 
 -- Cells with the same bytes are both undecided, or neither is.
-same_undecided : (part after : List ℕ) (i : ℕ) → cell_at after i ≡ cell_at part i → undecided after i ≡ undecided part i
+pub same_undecided : (part after : List ℕ) (i : ℕ) → cell_at after i ≡ cell_at part i → undecided after i ≡ undecided part i
 same_undecided part after i e = ap (λ cell. eqb (get_or cell 1 0) 255) e
 
 module _ (s : List ℕ) (n : Sizes) (world : ℕ) where

@@ -20,6 +20,7 @@ use job_layout::Sizes;
 use lamp_line::WorldState;
 use rule_worlds::{new_world, wants, world_values};
 use rules_file::Rules;
+use std::ops::Range;
 
 // Writes the two bytes of cell i.
 pub fn write_cell(part: &mut [u8], i: usize, next: WorldState, sensed: u8)
@@ -57,26 +58,15 @@ fn row_start(sizes: Sizes, action: u8, world: WorldState) -> usize
     (action as usize * sizes.worlds as usize + world.row(1)) * sizes.width()
 }
 
-// The columns that a rule with this column matches are those from `first_column` up to and without `columns_end`.
-fn first_column(sizes: Sizes, column: u8) -> usize
-    ensures { result ≡ first_column sizes column }
+// The columns that a rule with this column matches.
+fn matched_columns(sizes: Sizes, column: u8) -> Range<usize>
+    ensures { (result.start ≡ first_column sizes column) × (result.end ≡ columns_end sizes column) }
 {
-    if column == 255 {
-        return 0;
+    match column {
+        255 => 0..sizes.width(),
+        254 => sizes.end_kinds as usize..sizes.width(),
+        _ => column as usize..column as usize + 1,
     }
-    if column == 254 {
-        return sizes.end_kinds as usize;
-    }
-    column as usize
-}
-
-fn columns_end(sizes: Sizes, column: u8) -> usize
-    ensures { result ≡ columns_end sizes column }
-{
-    if 254 <= column {
-        return sizes.width();
-    }
-    column as usize + 1
 }
 
 // Lets rule i write its cells in a world state in which the fluents have these values.
@@ -91,8 +81,9 @@ fn apply_rule(rules: &Rules, i: usize, world: WorldState, values: &[u8], part: &
     }
     let next = new_world(rules.counts(), rule.new, values);
     let row = row_start(rules.sizes, rule.action, world);
-    let first = row + first_column(rules.sizes, rule.column);
-    let end = row + columns_end(rules.sizes, rule.column);
+    let columns = matched_columns(rules.sizes, rule.column);
+    let first = row + columns.start;
+    let end = row + columns.end;
     claim_cells(part, first, end, next, rule.result);
 }
 
@@ -101,12 +92,7 @@ fn any_undecided(part: &[u8], first: usize, count: usize) -> bool
     requires { 2 * (first + count) ≤ length part.now }
     ensures { result ≡ some_below count (λ c. undecided part.now (first + c)) }
 {
-    for c in 0..count {
-        if part[2 * (first + c) + 1] == 255 {
-            return true;
-        }
-    }
-    false
+    (0..count).any(|c| part[2 * (first + c) + 1] == 255)
 }
 
 // Some cell of the world state is written by no rule.

@@ -1,15 +1,13 @@
-use Rattle.std.proofs.Common.{◌∙◌, sym, arith}
-use Rattle.lamp_line.proofs.Scan.{none_yet_start, none_yet_more, scan_finds}
+use Rattle.std.proofs.Common.{◌∙◌, refl, arith, rules, tests}
+use Rattle.std.proofs.lemmas.Iterator.{YieldsList-from_range}
+use Rattle.std.proofs.lemmas.Iterator.Search.{any_from_yields_List}
+use Rattle.lamp_line.proofs.Scan.{any_below}
+use Rattle.job_layout.specs.FileRefusals.{moves_on_at_end}
 use Rattle.cell_refusals.proofs.end_wrong.Goals as goal
 
-pub loop-a-init : goal.loop-a-init
-loop-a-init c =
-    none_yet_start
-
-pub returns-then-moves_on_at_end : goal.returns-then-moves_on_at_end
-returns-then-moves_on_at_end c =
-    scan_finds c.loop-a.invariant (omega arith) (sym c.moves_on_at_end.ensures ∙ c.if-moves_on_at_end.true)
-
-pub loop-a-preserved : goal.loop-a-preserved
-loop-a-preserved c =
-    none_yet_more c.loop-a.invariant (omega arith) (sym c.moves_on_at_end.ensures ∙ c.if-moves_on_at_end.false)
+pub returns : goal.returns
+returns c =
+    any_from_yields_List (moves_on_at_end c.args.laid.now.file.now c.args.laid.now.head) _ _ _ c.any.ensures.ran
+    (YieldsList-from_range 0 _ c.args.laid.now.head.actions refl (omega arith))
+    (λ x b q k. search (rules, tests))
+    ∙ any_below _ _

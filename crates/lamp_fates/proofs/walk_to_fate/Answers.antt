@@ -1,4 +1,4 @@
-use Rattle.std.proofs.Common.{rules, ◌<◌, arith}
+use Rattle.std.proofs.Common.{◌∙◌, sym, rules, ◌<◌, arith, eqb-true}
 use Rattle.lamp_fates.proofs.WalkTurns.{leaving_starts, leaving_place, leaving_fits, leaving_on, unknown_falls}
 use Rattle.lamp_fates.proofs.WalkTurns.{walked_known, walked_circles, walked_ends, walked_passes, walked_final, next_world_within, next_small}
 use Rattle.lamp_fates.proofs.walk_to_fate.Goals as goal
@@ -35,9 +35,9 @@ pub judge-requires : goal.judge-requires
 judge-requires c =
     search (rules, next_world_within)
 
-pub returns-then-next-job : goal.returns-then-next-job
-returns-then-next-job c =
-    search walked_final
+pub returns-then-is_final : goal.returns-then-is_final
+returns-then-is_final c =
+    search (walked_final, eqb-true _ _ (sym c.is_final.ensures ∙ c.if-is_final.true))
 
 pub overflow_cast-memory : goal.overflow_cast-memory
 overflow_cast-memory c =

@@ -1,7 +1,7 @@
-use Rattle.std.proofs.Common.{ap, ◌∙◌, Ok, arith}
+use Rattle.std.proofs.Common.{rules}
 use Rattle.line_trial.proofs.LineTried.{all_ends_tried}
 use Rattle.line_trial.proofs.try_line.Goals as goal
 
-pub returns-then-end-job : goal.returns-then-end-job
-returns-then-end-job c =
-    all_ends_tried c.try_end.ensures (c.in_ok-pair.was ∙ ap Ok c.in-Some.is) (omega (arith, c.if-end-job.true))
+pub returns-else-is_none : goal.returns-else-is_none
+returns-else-is_none c =
+    search (rules, all_ends_tried c.try_end.ensures c.in_ok-found.was c.if-is_none.ensures)

@@ -1,16 +1,12 @@
-use Rattle.std.proofs.Common.{arith}
-use Rattle.log_replay.proofs.ReplayRefusals.{wrong_here, right_here}
-use Rattle.lamp_line.proofs.Scan.{none_yet_start}
+use Rattle.std.proofs.Common.{◌∙◌, rules, tests}
+use Rattle.std.proofs.lemmas.Iterator.{YieldsList-from_slice}
+use Rattle.std.proofs.lemmas.Iterator.Search.{any_from_yields_List}
+use Rattle.log_replay.proofs.ReplayRefusals.{pair_wrong, any_pair_wrong}
 use Rattle.log_replay.proofs.entries_wrong.Goals as goal
 
-pub loop-i-init : goal.loop-i-init
-loop-i-init c =
-    none_yet_start
-
-pub returns-then-actions-entry : goal.returns-then-actions-entry
-returns-then-actions-entry c =
-    wrong_here _ _ c.args.log.now c.loop-i.invariant (omega arith) c.read_entry-entry.ensures c.if-actions-entry.true
-
-pub loop-i-preserved : goal.loop-i-preserved
-loop-i-preserved c =
-    right_here _ _ c.args.log.now c.loop-i.invariant (omega arith) c.read_entry-entry.ensures c.if-actions-entry.false
+pub returns : goal.returns
+returns c =
+    any_from_yields_List (pair_wrong c.args.actions c.args.results) _ _ _ c.any.ensures.ran
+    (YieldsList-from_slice _ (c.iter.ensures.rest ∙ c.as_chunks.ensures.front))
+    (λ x b q k. search (rules, tests))
+    ∙ any_pair_wrong c.args.actions c.args.results c.args.log.now

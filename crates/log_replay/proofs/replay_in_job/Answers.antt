@@ -16,7 +16,7 @@ returns-in_default c =
 
 pub loop-i-preserved : goal.loop-i-preserved
 loop-i-preserved c =
-    replaying_more c.loop-i.invariant (search rules) c.read_entry.ensures c.follow_entry.ensures c.in-Some.is
+    replaying_more c.loop-i.invariant c.as_chunks.ensures.front (search rules) c.entry_of.ensures c.follow_entry.ensures c.in-Some.is
 
 pub returns : goal.returns
 returns c =

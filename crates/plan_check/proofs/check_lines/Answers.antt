@@ -1,7 +1,5 @@
 use Rattle.std.proofs.Common.{arith}
 use Rattle.std.proofs.lemmas.Result.{err_from_is_err_and}
-use Rattle.lamp_fates.proofs.BlankMemory.{entries_most}
-use Rattle.job_file.proofs.WellFormed.{well_formed_by}
 use Rattle.job_layout.specs.JobTables.{tables_by}
 use Rattle.line_finding.specs.inner.Finding.{Finds}
 use Rattle.plan_check.proofs.CheckRefusals.{Enough, file_refused_checked, buffer_refused, list_refused, words_refused, has_room, found_checked}
@@ -37,7 +35,7 @@ find-requires-else-size-le8192 c =
       list_enough = c.if-list-pairs.false;
       words_enough = c.if-words-pairs.false;
     } in
-    (has_room enough, entries_most (well_formed_by _ _ enough.opened), omega arith)
+    (has_room enough, omega arith, omega arith)
 
 -- Whichever memory it is, the search has found the failure. The `?` hands it on.
 pub returns-in_err-found : goal.returns-in_err-found

@@ -1,16 +1,13 @@
-use Rattle.std.proofs.Common.{arith}
-use Rattle.std.proofs.lemmas.Bool.{le-leb, lt-leb}
-use Rattle.lamp_line.proofs.Scan.{none_yet_start, none_yet_more, scan_finds}
+use Rattle.std.proofs.Common.{◌∙◌, refl, arith, rules, tests}
+use Rattle.std.proofs.lemmas.Iterator.{YieldsList-from_range}
+use Rattle.std.proofs.lemmas.Iterator.Search.{any_from_yields_List}
+use Rattle.lamp_line.proofs.Scan.{any_below}
+use Rattle.job_layout.specs.FileRefusals.{action_wrong_at}
 use Rattle.plan_refusals.proofs.action_wrong.Goals as goal
 
-pub loop-q-init : goal.loop-q-init
-loop-q-init c =
-    none_yet_start
-
-pub returns-then-laid-at : goal.returns-then-laid-at
-returns-then-laid-at c =
-    scan_finds c.loop-q.invariant (omega arith) (rw (← c.action_place-at.ensures, le-leb _ _ c.if-laid-at.true))
-
-pub loop-q-preserved : goal.loop-q-preserved
-loop-q-preserved c =
-    none_yet_more c.loop-q.invariant (omega arith) (rw (← c.action_place-at.ensures, lt-leb _ _ c.if-laid-at.false))
+pub returns : goal.returns
+returns c =
+    any_from_yields_List (action_wrong_at c.args.laid.now.file.now c.args.laid.now.head) _ _ _ c.any.ensures.ran
+    (YieldsList-from_range 0 _ c.args.laid.now.head.states refl (omega arith))
+    (λ x b q k. search (rules, tests))
+    ∙ any_below _ _

@@ -1,15 +1,13 @@
-use Rattle.std.proofs.Common.{◌∙◌, sym, arith}
-use Rattle.lamp_line.proofs.Scan.{none_yet_start, none_yet_more, scan_finds}
+use Rattle.std.proofs.Common.{◌∙◌, refl, arith, rules, tests}
+use Rattle.std.proofs.lemmas.Iterator.{YieldsList-from_range}
+use Rattle.std.proofs.lemmas.Iterator.Search.{any_from_yields_List}
+use Rattle.lamp_line.proofs.Scan.{any_below}
+use Rattle.job_layout.specs.FileRefusals.{row_wrong}
 use Rattle.plan_refusals.proofs.target_wrong.Goals as goal
 
-pub loop-q-init : goal.loop-q-init
-loop-q-init c =
-    none_yet_start
-
-pub returns-then-row_wrong : goal.returns-then-row_wrong
-returns-then-row_wrong c =
-    scan_finds c.loop-q.invariant (omega arith) (sym c.row_wrong.ensures ∙ c.if-row_wrong.true)
-
-pub loop-q-preserved : goal.loop-q-preserved
-loop-q-preserved c =
-    none_yet_more c.loop-q.invariant (omega arith) (sym c.row_wrong.ensures ∙ c.if-row_wrong.false)
+pub returns : goal.returns
+returns c =
+    any_from_yields_List (row_wrong c.args.laid.now.file.now c.args.laid.now.head) _ _ _ c.any.ensures.ran
+    (YieldsList-from_range 0 _ c.args.laid.now.head.states refl (omega arith))
+    (λ x b q k. search (rules, tests))
+    ∙ any_below _ _

@@ -1,14 +1,16 @@
-use Rattle.std.proofs.Common.{arith, sym, ◌∙◌}
-use Rattle.lamp_line.proofs.Scan.{none_yet_start, none_yet_more, scan_finds}
+use Rattle.std.proofs.Common.{rules, tests, Bool, ℕ, refl, arith, ◌∙◌}
+use Rattle.std.proofs.lemmas.Iterator.{YieldsList-from_range}
+use Rattle.std.proofs.lemmas.Iterator.Search.{any_from_yields_List}
+use Rattle.rules_file.specs.RulesFile.{value_counts, rule_count, rule_at}
+use Rattle.rules_file.specs.RulesRefusal.{rule_wrong}
+use Rattle.lamp_line.proofs.Scan.{any_below}
 use Rattle.rules_file.proofs.any_rule_wrong.Goals as goal
 
-pub loop-i-init : goal.loop-i-init
-loop-i-init c = none_yet_start
-
-pub returns-then-rule_wrong : goal.returns-then-rule_wrong
-returns-then-rule_wrong c =
-    scan_finds c.loop-i.invariant (omega arith) (rw c.rule_place.ensures at (sym c.rule_wrong.ensures ∙ c.if-rule_wrong.true))
-
-pub loop-i-preserved : goal.loop-i-preserved
-loop-i-preserved c =
-    none_yet_more c.loop-i.invariant (omega arith) (rw c.rule_place.ensures at (sym c.rule_wrong.ensures ∙ c.if-rule_wrong.false))
+pub returns : goal.returns
+returns c =
+    let s = c.args.rules.now in
+    let wrong : ℕ → Bool = λ i. rule_wrong c.args.sizes (value_counts s) (rule_at s i) in
+    any_from_yields_List wrong _ _ _ c.any.ensures.ran
+    (YieldsList-from_range 0 (rule_count s) (rule_count s) (rw c.rule_count.ensures refl) (omega arith))
+    (λ x b q k. search (rules, tests))
+    ∙ any_below wrong (rule_count s)

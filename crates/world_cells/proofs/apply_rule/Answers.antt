@@ -39,4 +39,4 @@ pub returns : goal.returns
 returns c =
     let r = c.args.rules.now in
     applied_here r.bytes.now r.sizes r.right c.args.part.now c.requires c.rule-rule.ensures (omega arith) (sym c.wants.ensures ∙ c.if-not-wants.false)
-    c.row_start-row.ensures c.first_column.ensures c.columns_end.ensures c.counts.ensures c.new_world-next.ensures c.claim_cells.ensures
+    c.row_start-row.ensures c.matched_columns-columns.ensures.0 c.matched_columns-columns.ensures.1 c.counts.ensures c.new_world-next.ensures c.claim_cells.ensures
