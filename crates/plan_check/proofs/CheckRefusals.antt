@@ -136,6 +136,13 @@ pub record Enough (s : List ℕ) (lent : Lent) (j : Job) : Type 0 where
   pub list_enough : j.states * j.worlds + j.worlds ≤ length lent.list
   pub words_enough : (j.states * j.worlds + j.worlds + 63) / 64 ≤ length lent.words
 
+-- The tests that the code makes of the three lengths.
+pub enough_lent : (line list words : List ℕ) {s : List ℕ} {j : Job} → Opened s j → j.states * j.worlds + 1 ≤ length line →
+    j.states * j.worlds + j.worlds ≤ length list → (j.states * j.worlds + j.worlds + 63) / 64 ≤ length words →
+    Enough s (record { line = line; list = list; words = words }) j
+enough_lent line list words opened line_enough list_enough words_enough =
+    record { opened = opened; line_enough = line_enough; list_enough = list_enough; words_enough = words_enough }
+
 module _ {s : List ℕ} {lent : Lent} {j : Job} (enough : Enough s lent j) where
   none_applies : refusal (rules s lent) ≡ None
   none_applies =

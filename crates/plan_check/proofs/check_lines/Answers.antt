@@ -2,7 +2,7 @@ use Rattle.std.proofs.Common.{arith}
 use Rattle.std.proofs.lemmas.Result.{err_from_is_err_and}
 use Rattle.job_layout.specs.JobTables.{tables_by}
 use Rattle.line_finding.specs.inner.Finding.{Finds}
-use Rattle.plan_check.proofs.CheckRefusals.{Enough, file_refused_checked, buffer_refused, list_refused, words_refused, has_room, found_checked}
+use Rattle.plan_check.proofs.CheckRefusals.{enough_lent, file_refused_checked, buffer_refused, list_refused, words_refused, has_room, found_checked}
 use Rattle.plan_check.proofs.check_lines.Goals as goal
 use Rattle.plan_check.proofs.check_lines.Goals.{then-size-le256, else-size-le256+then-size-le8192, else-size-le256+else-size-le8192}
 
@@ -28,25 +28,15 @@ returns-then-words-pairs c =
 
 pub find-requires-else-size-le8192 : goal.find-requires-else-size-le8192
 find-requires-else-size-le8192 c =
-    let enough : Enough c.in_ok-job.job.file.now (record { line = c.args.line.now; list = c.args.list.now; words = c.args.words.now }) c.in_ok-job.job.head =
-    record {
-      opened = c.in_ok-job.job.opened;
-      line_enough = c.if-line-live.false;
-      list_enough = c.if-list-pairs.false;
-      words_enough = c.if-words-pairs.false;
-    } in
+    let a = c.args in
+    let enough = enough_lent a.line.now a.list.now a.words.now c.in_ok-job.job.opened c.if-line-live.false c.if-list-pairs.false c.if-words-pairs.false in
     (has_room enough, omega arith, omega arith)
 
 -- Whichever memory it is, the search has found the failure. The `?` hands it on.
 pub returns-in_err-found : goal.returns-in_err-found
 returns-in_err-found c =
-    let enough : Enough c.in_ok-job.job.file.now (record { line = c.args.line.now; list = c.args.list.now; words = c.args.words.now }) c.in_ok-job.job.head =
-    record {
-      opened = c.in_ok-job.job.opened;
-      line_enough = c.if-line-live.false;
-      list_enough = c.if-list-pairs.false;
-      words_enough = c.if-words-pairs.false;
-    } in
+    let a = c.args in
+    let enough = enough_lent a.line.now a.list.now a.words.now c.in_ok-job.job.opened c.if-line-live.false c.if-list-pairs.false c.if-words-pairs.false in
     let finds : Finds (tables_by c.in_ok-job.job.file.now c.in_ok-job.job.head) c.args.longest c.if-size-le256.found c.args.line.now c.if-size-le256.line =
     elim c.if-size-le256.branch [
       | then-size-le256 w ↦ rw (w.found-is, w.line-is) w.find-found.ensures
@@ -58,13 +48,8 @@ returns-in_err-found c =
 
 pub returns : goal.returns
 returns c =
-    let enough : Enough c.in_ok-job.job.file.now (record { line = c.args.line.now; list = c.args.list.now; words = c.args.words.now }) c.in_ok-job.job.head =
-    record {
-      opened = c.in_ok-job.job.opened;
-      line_enough = c.if-line-live.false;
-      list_enough = c.if-list-pairs.false;
-      words_enough = c.if-words-pairs.false;
-    } in
+    let a = c.args in
+    let enough = enough_lent a.line.now a.list.now a.words.now c.in_ok-job.job.opened c.if-line-live.false c.if-list-pairs.false c.if-words-pairs.false in
     let finds : Finds (tables_by c.in_ok-job.job.file.now c.in_ok-job.job.head) c.args.longest c.if-size-le256.found c.args.line.now c.if-size-le256.line =
     elim c.if-size-le256.branch [
       | then-size-le256 w ↦ rw (w.found-is, w.line-is) w.find-found.ensures
