@@ -119,7 +119,7 @@ pub appended_none : (a : Line) → Appended a (numbers []) a
 unfolding numbers
 appended_none a = record { same = refl; size = refl; wrote = record { place = omega arith; content = refl } }
 
-next_number : (ns : List ℕ) (i : ℕ) → i < length ns →
+pub next_number : (ns : List ℕ) (i : ℕ) → i < length ns →
     numbers (take i ns) ++ numbers (get_or ns i 0 ∷ []) ≡ numbers (take (i + 1) ns)
 next_number ns i i< =
     let e : i + 1 ≡ suc i = omega arith in

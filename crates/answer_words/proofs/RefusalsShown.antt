@@ -17,6 +17,7 @@ use Rattle.line_run.specs.declared.Ran.{Ran}
 use Rattle.line_run.specs.declared.Ran.TheVariants as ran
 use Rattle.plan_check.specs.declared.CheckError.{CheckError}
 use Rattle.plan_check.specs.declared.CheckError.TheVariants as check
+use Rattle.plan_check.specs.ShortAnswers.{ShortAnswer}
 use Rattle.log_replay.specs.declared.ReplayError.{ReplayError}
 use Rattle.log_replay.specs.declared.ReplayError.TheVariants as replay
 use Rattle.cabinet.specs.declared.ReportError.{ReportError}
@@ -100,8 +101,8 @@ check_shown : (x : Result ℕ CheckError) → RefusalShown (check_word x)
 check_shown (Ok count) = answered goal_code 0 0 count (omega arith)
 check_shown (Err error) = error_shown error
 
-short_shown : (x : Result ℕ CheckError) → RefusalShown (short_word x)
-short_shown (Ok n) = answered none_up_to_code 0 0 n (omega arith)
+short_shown : (x : ShortAnswer) → RefusalShown (short_word x)
+short_shown (Ok n) = answered none_up_to_code 0 0 n.0 (omega arith)
 short_shown (Err error) = error_shown error
 
 begin_shown : (x : Answer Cabinet) → RefusalShown (begin_word x)

@@ -16,7 +16,7 @@ use Rattle.plan_check.specs.declared.Failure.{Failure as FailedAnswer}
 use Rattle.plan_check.specs.declared.CheckError.{CheckError}
 use Rattle.plan_check.specs.declared.CheckError.TheVariants as check
 use Rattle.plan_check.specs.CheckAnswers.{Lent, Checked}
-use Rattle.plan_check.specs.ShortAnswers.{CheckedUpTo}
+use Rattle.plan_check.specs.ShortAnswers.{ShortAnswer, CheckedUpTo}
 use Rattle.log_replay.specs.declared.ReplayError.{ReplayError}
 use Rattle.log_replay.specs.declared.ReplayError.TheVariants as replay
 use Rattle.log_replay.specs.ReplayAnswers.{Replayed}
@@ -128,13 +128,13 @@ pub record CheckedWord (s : List ℕ) (r : ℕ) (before after : Lent) : Type 0 w
   pub as_number : r ≡ check_word answer
 
 -- If no line fails, the count is the number of lamps up to which none does.
-abbrev pub short_word : Result ℕ CheckError → ℕ
-short_word (Ok n) = answer_word 0 none_up_to_code 0 0 n
+abbrev pub short_word : ShortAnswer → ℕ
+short_word (Ok n) = answer_word 0 none_up_to_code 0 0 n.0
 short_word (Err error) = error_word error
 
 -- The contract of the exported short check: r is the number for an answer that it may give.
 pub record CheckedUpToWord (s : List ℕ) (longest r : ℕ) (before after : Lent) : Type 0 where
-  pub answer : Result ℕ CheckError
+  pub answer : ShortAnswer
   pub checked : CheckedUpTo s longest answer before after
   pub as_number : r ≡ short_word answer
 

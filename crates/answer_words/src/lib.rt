@@ -12,7 +12,7 @@ use lamp_line::{Cabinet, Ending, Refusal};
 use lamp_walk::Walked;
 use line_run::Ran;
 use log_replay::ReplayError;
-use plan_check::{CheckError, Failure};
+use plan_check::{CheckError, Failure, NoneUpTo};
 
 // The codes, besides 1 to 4, which are the numbers of the failure kinds.
 const GOAL: u8 = 0;
@@ -127,11 +127,11 @@ pub fn check_word(answer: Result<u32, CheckError>) -> u64
     }
 }
 
-pub fn short_word(answer: Result<u16, CheckError>) -> u64
+pub fn short_word(answer: Result<NoneUpTo, CheckError>) -> u64
     ensures { result ≡ short_word answer }
 {
     match answer {
-        Ok(longest) => answer_word(0, NONE_UP_TO, 0, 0, longest as u32),
+        Ok(NoneUpTo(longest)) => answer_word(0, NONE_UP_TO, 0, 0, longest as u32),
         Err(error) => error_word(error),
     }
 }

@@ -1,6 +1,6 @@
 // Both checks as one call, with the answer in one form.
 use lamp_line::{FailureKind, Refusal};
-use plan_check::CheckError;
+use plan_check::{CheckError, NoneUpTo};
 use row_cases::printing::{print_bytes, print_refused};
 use std::io;
 
@@ -58,7 +58,7 @@ pub fn check_lines(
         };
     };
     match plan_check::check_up_to(file, longest, line, list, words) {
-        Ok(longest) => Told::NoneUpTo(usize::from(longest)),
+        Ok(NoneUpTo(longest)) => Told::NoneUpTo(usize::from(longest)),
         Err(error) => Told::from(error),
     }
 }

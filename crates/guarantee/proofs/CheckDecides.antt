@@ -62,9 +62,9 @@ failing_line (accepted n) = line_of 0 []
 failing_line (failed kind start line) = line
 
 -- Two right answers for the same line buffer are equal, and leave it equal.
-abbrev pub RightOnce : (CheckAnswer ℕ → List ℕ → List ℕ → Type 0) → Type 0
-RightOnce IsRight =
-    (r r' : CheckAnswer ℕ) (line line' line'' : List ℕ) → IsRight r line line' → IsRight r' line line'' → (r ≡ r') × (line' ≡ line'')
+abbrev pub RightOnce : {A : Type 0} → (CheckAnswer A → List ℕ → List ℕ → Type 0) → Type 0
+RightOnce {A} IsRight =
+    (r r' : CheckAnswer A) (line line' line'' : List ℕ) → IsRight r line line' → IsRight r' line line'' → (r ≡ r') × (line' ≡ line'')
 
 module _ (t : Tables) (wf : WellFormed t) where
   pub answered_once : RightOnce (AnsweredRight t)
@@ -97,8 +97,8 @@ module _ (t : Tables) (wf : WellFormed t) where
 
 -- Two checks that are handed the same give the same answer and leave the same line buffer, if right answers for a file that is not refused do.
 pub same_checks :
-    (s : List ℕ) (IsRight : CheckAnswer ℕ → List ℕ → List ℕ → Type 0) → (Opened s (head s) → RightOnce IsRight) →
-    (r r' : CheckAnswer ℕ) (before after after' : Lent) → CheckedBy IsRight (check_refusal s before) r before after →
+    {A : Type 0} (s : List ℕ) (IsRight : CheckAnswer A → List ℕ → List ℕ → Type 0) → (Opened s (head s) → RightOnce IsRight) →
+    (r r' : CheckAnswer A) (before after after' : Lent) → CheckedBy IsRight (check_refusal s before) r before after →
     CheckedBy IsRight (check_refusal s before) r' before after' → SameChecks r r' after after'
 same_checks s IsRight once r r' before after after' = by (check_refusal s before) refl
   where

@@ -11,17 +11,17 @@ use Rattle.job_file.proofs.Opening.{opened_unrefused}
 use Rattle.line_finding.specs.declared.Failure.{Failure as FailedAnswer}
 use Rattle.plan_check.specs.declared.CheckError.TheVariants as error
 use Rattle.plan_check.specs.CheckAnswers.{failed_line, CheckAnswer, AnsweredRight, Lent, CheckedBy, check_refusal, Checked}
-use Rattle.plan_check.specs.ShortAnswers.{AnsweredUpTo, CheckedUpTo}
+use Rattle.plan_check.specs.ShortAnswers.{none_up_to, AnsweredUpTo, CheckedUpTo}
 
 -- The answer is no refusal.
-abbrev NotRefused : CheckAnswer ℕ → Type 0
+abbrev NotRefused : {A : Type 0} → CheckAnswer A → Type 0
 NotRefused (Err (error.Refused because)) = ⊥
 NotRefused other = Unit {0}
 
 module _ (s : List ℕ) (before after : Lent) where
   -- An answer that is no refusal is right, and the file is not refused.
   not_refused_right :
-      (IsRight : CheckAnswer ℕ → List ℕ → List ℕ → Type 0) (r : CheckAnswer ℕ) → NotRefused r →
+      {A : Type 0} (IsRight : CheckAnswer A → List ℕ → List ℕ → Type 0) (r : CheckAnswer A) → NotRefused r →
       CheckedBy IsRight (check_refusal s before) r before after → Opened s (head s) × IsRight r before.line after.line
   not_refused_right IsRight r not_refused = by (check_refusal s before) refl
     where
@@ -48,8 +48,9 @@ module _ (s : List ℕ) (before after : Lent) where
       (opened, right.right)
 
   -- None up to a number of lamps: no line of up to that many fails.
-  pub none_means : (longest n : ℕ) → CheckedUpTo s longest (Ok n) before after → Opened s (head s) × NoneUpTo (tables_of s) longest
+  pub none_means :
+      (longest n : ℕ) → CheckedUpTo s longest (Ok (none_up_to n)) before after → Opened s (head s) × NoneUpTo (tables_of s) longest
   unfolding AnsweredUpTo
   none_means longest n checked =
-      let (opened, right) = not_refused_right (AnsweredUpTo (tables_of s) longest) (Ok n) tt checked in
+      let (opened, right) = not_refused_right (AnsweredUpTo (tables_of s) longest) (Ok (none_up_to n)) tt checked in
       (opened, right.none)

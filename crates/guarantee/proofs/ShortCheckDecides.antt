@@ -20,7 +20,7 @@ use Rattle.job_tables.proofs.Ranges.{well_formed}
 use Rattle.line_finding.specs.declared.Failure.{Failure as FailedAnswer}
 use Rattle.plan_check.specs.declared.CheckError.TheVariants as error
 use Rattle.plan_check.specs.CheckAnswers.{failed_line, FailedRight, CheckAnswer, AnsweredRight, Lent, CheckedBy, check_refusal}
-use Rattle.plan_check.specs.ShortAnswers.{AnsweredUpTo, CheckedUpTo}
+use Rattle.plan_check.specs.ShortAnswers.{ShortAnswer, none_up_to, AnsweredUpTo, CheckedUpTo}
 use Rattle.guarantee.specs.ShortCheckPromises.{AsFull, ShortAsFull, FailedAsFull, ShortDetermined, GoalUpTo, NoneExactly, NoneRuns, NoneServed, FarEnough}
 use Rattle.guarantee.proofs.CheckMeans.{none_means}
 use Rattle.guarantee.proofs.CheckDecides.{RightOnce, answered_once, same_checks}
@@ -55,14 +55,14 @@ module _ (t : Tables) (wf : WellFormed t) where
       -- A right answer of the short check is what the full check's makes it.
       as_full :
           (r : CheckAnswer ℕ) → AnsweredRight t r before.line after.line →
-          (r' : CheckAnswer ℕ) → AnsweredUpTo t longest r' before.line after'.line → AsFull longest r before after r' after'
+          (r' : ShortAnswer) → AnsweredUpTo t longest r' before.line after'.line → AsFull longest r before after r' after'
       unfolding AnsweredRight AnsweredUpTo Right
-      as_full (Ok count) (accepts, same) (Ok n) right = (ap Ok right.bound, right.unchanged)
+      as_full (Ok count) (accepts, same) (Ok n) right = (ap Ok (ap none_up_to right.bound), right.unchanged)
       as_full (Ok count) (accepts, same) (Err (error.Failed g)) right =
           absurd (correct_never_fails t wf accepts.correct g.kind g.start _ right.failed_right.right.fails)
       as_full (Err (error.Failed f)) d (Ok n) right = (
         λ short_line. absurd (let far = (none_beyond f before.line after.line d).1 right.none in omega arith),
-        λ far. (ap Ok right.bound, right.unchanged),
+        λ far. (ap Ok (ap none_up_to right.bound), right.unchanged),
       )
       as_full (Err (error.Failed f)) d (Err (error.Failed g)) right =
           let (same, same_line) = failed_once f g before.line after.line after'.line d right.failed_right in (
@@ -75,7 +75,7 @@ module _ (t : Tables) (wf : WellFormed t) where
       -- What the full check's answer makes it is a right answer of the short check.
       from_full :
           (r : CheckAnswer ℕ) → AnsweredRight t r before.line after.line →
-          (r' : CheckAnswer ℕ) → AsFull longest r before after r' after' → AnsweredUpTo t longest r' before.line after'.line
+          (r' : ShortAnswer) → AsFull longest r before after r' after' → AnsweredUpTo t longest r' before.line after'.line
       unfolding AnsweredRight AnsweredUpTo Right
       from_full (Ok count) (accepts, same) r' (is, unchanged) =
           rw is
@@ -99,7 +99,7 @@ module _ (t : Tables) (wf : WellFormed t) where
     short_once : RightOnce (AnsweredUpTo t longest)
     unfolding AnsweredUpTo Right
     short_once (Ok n) (Ok n') line line' line'' a b =
-        (ap Ok (a.bound ∙ sym b.bound), a.unchanged ∙ sym b.unchanged)
+        (ap Ok (ap none_up_to (a.bound ∙ sym b.bound)), a.unchanged ∙ sym b.unchanged)
     short_once (Ok n) (Err (error.Failed g)) line line' line'' a b =
         absurd (let far = (none_beyond g line line'' b.failed_right).1 a.none in omega (arith, b.up_to))
     short_once (Err (error.Failed f)) (Ok n) line line' line'' a b =
@@ -156,9 +156,9 @@ none_exactly s longest r before after not_refused checked = go r (rw not_refused
     wf = well_formed s (head s) (opened_unrefused s _ not_refused)
 
     go :
-        (r : CheckAnswer ℕ) → AnsweredUpTo (tables_of s) longest r before.line after.line →
-        (r ≡ Ok longest) ↔ GoalUpTo (tables_of s) longest
-    go (Ok n) right = (λ is. (none_goal (tables_of s) wf longest).0 right.none, λ good. ap Ok right.bound)
+        (r : ShortAnswer) → AnsweredUpTo (tables_of s) longest r before.line after.line →
+        (r ≡ Ok (none_up_to longest)) ↔ GoalUpTo (tables_of s) longest
+    go (Ok n) right = (λ is. (none_goal (tables_of s) wf longest).0 right.none, λ good. ap Ok (ap none_up_to right.bound))
     go (Err (error.Failed f)) right = (
       λ is. absurd cc,
       λ good.
@@ -170,7 +170,7 @@ none_exactly s longest r before after not_refused checked = go r (rw not_refused
 
 -- The execution reaches the goal on each line of up to that many lamps.
 goal_up_to :
-    (s : List ℕ) (longest n : ℕ) (before after : Lent) → CheckedUpTo s longest (Ok n) before after →
+    (s : List ℕ) (longest n : ℕ) (before after : Lent) → CheckedUpTo s longest (Ok (none_up_to n)) before after →
     Opened s (head s) × GoalUpTo (tables_of s) longest
 goal_up_to s longest n before after checked =
     let (opened, none_fails) = none_means s before after longest n checked in

@@ -42,11 +42,11 @@ staying_more {t} {l} {before} {after} {n} {word} those room this =
 -- ---- no candidate
 
 -- Where the words of all columns are empty there is none.
-no_candidate : {j : Job} {sets : List ℕ} → ((c : ℕ) → c < job_columns j → get_or sets c 0 ≡ 0) → NoneLeft j sets true
+pub no_candidate : {j : Job} {sets : List ℕ} → ((c : ℕ) → c < job_columns j → get_or sets c 0 ≡ 0) → NoneLeft j sets true
 no_candidate empty w c held = false≢true (sym (none_in_zero w.0) ∙ (rw (empty c held.is_column) at held.has))
 
 -- A word that is not 0 holds one.
-some_candidate_left : {j : Job} {sets : List ℕ} {c : ℕ} → c < job_columns j → get_or sets c 0 ≢ 0 → NoneLeft j sets false
+pub some_candidate_left : {j : Job} {sets : List ℕ} {c : ℕ} → c < job_columns j → get_or sets c 0 ≢ 0 → NoneLeft j sets false
 some_candidate_left {c = c} c< other =
     let (w, has) = some_bit other in
     (world_state w, c, record { is_column = c<; has = has })

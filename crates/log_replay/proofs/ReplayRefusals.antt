@@ -62,7 +62,7 @@ module _ (s log : List ℕ) where
 
   module _ {j : Job} (opened : Opened s j) where
     -- If the file is not refused, the two refusals of the replay decide.
-    replay_by_refusals :
+    pub replay_by_refusals :
         refusal (replay_refusals s log)
         ≡ refusal
         ((refused.LogSize when log_size_wrong log) ∷ (refused.LogEntry when entries_wrong j.actions j.results log) ∷ [])

@@ -1,11 +1,15 @@
 // The sum of bits.
+ghost use Rattle.std.specs.Prelude.{◌≤◌, length};
+
 use pair_bits::sum_bits;
 use row_cases::reading::read_u64;
 use std::io;
 use std::io::Read;
 
 // Writes bytes to words, eight bytes to a word, the lowest first, as far as both go. Answers the words that they fill.
-fn put_bytes<'a>(words: &'a mut [u64], bytes: &[u8]) -> &'a [u64] {
+fn put_bytes<'a>(words: &'a mut [u64], bytes: &[u8]) -> &'a [u64]
+    ensures { length result.now ≤ length words.old }
+{
     let (eights, _) = bytes.as_chunks();
     let count = words.len().min(eights.len());
     for (word, eight) in words.iter_mut().zip(eights) {

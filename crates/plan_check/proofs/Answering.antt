@@ -9,12 +9,12 @@ use Rattle.lamp_line.specs.Check.{Right}
 use Rattle.job_layout.specs.JobTables.{tables_of}
 use Rattle.plan_check.specs.declared.CheckError.TheVariants as error
 use Rattle.plan_check.specs.CheckAnswers.{CheckAnswer, AnsweredRight, Lent, check_refusal, CheckedBy, Checked}
-use Rattle.plan_check.specs.ShortAnswers.{AnsweredUpTo, CheckedUpTo}
+use Rattle.plan_check.specs.ShortAnswers.{ShortAnswer, none_up_to, AnsweredUpTo, CheckedUpTo}
 use Rattle.plan_check.specs.inner.Outcomes.{OutcomeRight, CheckedLines}
 
 -- The short check's answer: its bound, if no line fails.
-abbrev pub short_answer : ℕ → CheckAnswer ℕ → CheckAnswer ℕ
-short_answer longest (Ok count) = Ok longest
+abbrev pub short_answer : ℕ → CheckAnswer ℕ → ShortAnswer
+short_answer longest (Ok count) = Ok (none_up_to longest)
 short_answer longest (Err e) = Err e
 
 module _ (t : Tables) (longest : ℕ) where

@@ -37,6 +37,11 @@ impl From<Refusal> for CheckError {
     }
 }
 
+// What the short check answers where it finds no failing line: that no line of up to this many lamps fails. It is no acceptance, since the short
+// check knows nothing of longer lines, and no answer of the full check holds it.
+#[derive(Clone, Copy)]
+pub struct NoneUpTo(pub u16);
+
 // A number of lamps that no line has which the search tries: there are at most 4,160 pairs.
 const NO_BOUND: usize = 65536;
 
@@ -77,6 +82,7 @@ fn check_lines(
 }
 
 // Checks the plan of any file on all lines. It answers the number of pairs that some line reaches on arriving at a lamp or at the line's end.
+#[tactic(auto, using(crate::proofs::Answering::full_checked))]
 pub fn check_plan(
     file: &[u8],
     line: &mut [u8],
@@ -90,19 +96,18 @@ pub fn check_plan(
     check_lines(file, NO_BOUND, line, list, words)
 }
 
-// Checks the plan of any file on the lines of up to `longest` lamps. If none of these lines fails, it answers this number: the short check
-// knows nothing of longer lines.
+// Checks the plan of any file on the lines of up to `longest` lamps. If none of these lines fails, it answers this number.
 pub fn check_up_to(
     file: &[u8],
     longest: u16,
     line: &mut [u8],
     list: &mut [u32],
     words: &mut [u64],
-) -> Result<u16, CheckError>
+) -> Result<NoneUpTo, CheckError>
     ensures { CheckedUpTo file.now longest result
         (record { line = line.old; list = list.old; words = words.old })
         (record { line = line.new; list = list.new; words = words.new }) }
 {
     check_lines(file, longest as usize, line, list, words)?;
-    Ok(longest)
+    Ok(NoneUpTo(longest))
 }

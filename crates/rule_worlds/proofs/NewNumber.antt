@@ -27,18 +27,18 @@ module _ {counts values : List ℕ} {i world : ℕ} (before : Numbered counts va
       sym (world_number_more world (get_or counts i 0) value (drop (suc i) counts) (drop (suc i) values))
       ∙ (rw (drop-cons counts i 0 i<, drop-cons values i 0 (omega (arith, values_length counts values right)), e) at before.so_far)
 
-  numbered_more : Numbered counts values (i + 1) (world * get_or counts i 0 + value)
+  pub numbered_more : Numbered counts values (i + 1) (world * get_or counts i 0 + value)
   numbered_more = record { within = omega arith; so_far = rw (add-one i) next }
 
   -- It is never above the number that it becomes.
-  stays_small : world * get_or counts i 0 + value ≤ world_number counts values
+  pub stays_small : world * get_or counts i 0 + value ≤ world_number counts values
   stays_small =
       let number = (worlds_are_values counts).has_number values right in
       let positive = suffix_positive counts (suc i) (omega arith) in
       omega (arith, next, mul-le-mul_left {m = 1} {n = world_count (drop (suc i) counts)} (world * get_or counts i 0 + value) positive, mul-one (world * get_or counts i 0 + value))
 
   -- So it fits in a byte if there are at most 64 world states.
-  stays_below_64 : world_count counts ≤ 64 → world * get_or counts i 0 + value ≤ 63
+  pub stays_below_64 : world_count counts ≤ 64 → world * get_or counts i 0 + value ≤ 63
   stays_below_64 few =
       let below = (worlds_are_values counts).has_number values right in
       omega (arith, stays_small)

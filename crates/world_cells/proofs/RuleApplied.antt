@@ -80,63 +80,68 @@ module _ (s : List ℕ) (n : Sizes) (i world : ℕ) (before after : List ℕ) (f
 
 -- ---- what the code asks for
 
--- Rule i of a file that is not refused, for a world state in which the fluents have these values.
-module _ (s : List ℕ) (n : Sizes) (right : rules_wrong s n ≡ false) (part : List ℕ) {i world : ℕ} {values : List ℕ}
-    (asked : (length part ≡ part_length n) × (i < rule_count s) × (world < n.worlds) × (values ≡ values_in (value_counts s) world))
-    {rule : CellRule} (is : rule ≡ rule_at s i) where
+-- A file that is not refused.
+module _ (s : List ℕ) (n : Sizes) (right : rules_wrong s n ≡ false) where
   rules : RulesRight s n
   rules = rules_right s n right
-
-  rule_is_right : RuleRight n (value_counts s) rule
-  rule_is_right = rw is (rule_right n (value_counts s) (rule_at s i) (rules.each_rule i asked.1))
-
-  -- The rule ends within the file.
-  rule_in_file : rules_place s + i * rule_size s + rule_size s ≤ length s
-  rule_in_file = rule_in s i rules.counts_in asked.1
-
-  values_right : Values (value_counts s) values
-  values_right = rw asked.3 ((worlds_are_values (value_counts s)).has_values world (omega (arith, rules.product)))
 
   counts_long : length (value_counts s) ≡ fluents s
   counts_long = fluent_bytes_length s 1 rules.counts_in
 
-  -- What `wants` asks for.
-  pub wants_asked : length rule.wanted ≡ length values
-  wants_asked =
-      rw is (fluent_bytes_length s (rules_place s + i * rule_size s + 3) (omega (arith, rule_in_file)))
-      ∙ sym (values_length (value_counts s) values values_right ∙ counts_long)
+  -- Each rule ends within the file.
+  pub rule_in_file : (i : ℕ) → i < rule_count s → rules_place s + i * rule_size s + rule_size s ≤ length s
+  rule_in_file i within = rule_in s i rules.counts_in within
 
-  -- What `new_world` asks for.
-  pub new_world_asked : {counts : List ℕ} → counts ≡ value_counts s →
-      (world_count counts ≤ 64) × (length rule.new ≡ length counts) × (some_pair value_wrong counts rule.new ≡ false) × Values counts values
-  new_world_asked are =
-      let long : length rule.new ≡ fluents s
-      = rw is (fluent_bytes_length s (rules_place s + i * rule_size s + 3 + fluents s) (omega (arith, rule_in_file))) in
-      rw are (omega (arith, rules.product, rules.sizes.worlds), long ∙ sym counts_long, rule_is_right.new_right, values_right)
+  -- The values of a world state are in range.
+  pub values_right : (world : ℕ) {values : List ℕ} → world < n.worlds → values ≡ values_in (value_counts s) world → Values (value_counts s) values
+  values_right world world< are = rw are ((worlds_are_values (value_counts s)).has_values world (omega (arith, rules.product)))
 
-  -- Its cells lie in the part, which has at most 16,384 cells.
-  pub rule_cells_in : rule.column < 256 →
-      (first_column n rule.column ≤ columns_end n rule.column)
-      × (2 * (row_start n rule.action world + columns_end n rule.column) ≤ length part)
-      × (length part ≤ 32768)
-  rule_cells_in known =
-      let within = columns_within n rules.sizes.columns_few rule.column (ruled_right n rule.column known rule_is_right.column_right) in
-      let rows = product_le 16 64 n.actions n.worlds rules.sizes.actions.1 rules.sizes.worlds.1 in
-      let few = product_le 1024 16 (n.actions * n.worlds) (width n) (omega arith) rules.sizes.columns_few in
-      (within.0, omega (arith, within.1, asked.0, cells_row_in n rule.action world rule_is_right.action_range asked.2), omega (arith, asked.0))
+  -- Rule i, for a world state in which the fluents have these values.
+  module _ {i world : ℕ} {values : List ℕ} (within : i < rule_count s) (world< : world < n.worlds)
+      (are : values ≡ values_in (value_counts s) world) {rule : CellRule} (is : rule ≡ rule_at s i) where
+    rule_is_right : RuleRight n (value_counts s) rule
+    rule_is_right = rw is (rule_right n (value_counts s) (rule_at s i) (rules.each_rule i within))
 
-  -- The rule has been applied where it wants the values and has claimed its columns in the row of its action.
-  pub applied_here :
-      {counts before after : List ℕ} {row first end next : ℕ} →
-      rule.column < 256 → not (some_pair unwanted rule.wanted values) ≡ true → row ≡ row_start n rule.action world →
-      first ≡ first_column n rule.column → end ≡ columns_end n rule.column → counts ≡ value_counts s →
-      next ≡ world_number counts (new_values rule.new values) →
-      Claimed before after (row + first) (row + end) next rule.result → Applied s n i world before after
-  applied_here known wants_them row_is first_is end_is counts_are next_is change =
-      applied s n i _ _ _ rules.sizes.columns_few asked.2
-      (rw is at (ruled_right n rule.column known rule_is_right.column_right))
-      (rw (is, asked.3) at wants_them)
-      (rw (row_is, first_is, end_is, next_is, counts_are, asked.3, is) at change)
+    here : Values (value_counts s) values
+    here = values_right world world< are
 
-  pub applied_not_here : not (some_pair unwanted rule.wanted values) ≡ false → Applied s n i world part part
-  applied_not_here unwanted_here = applied_nowhere s n i _ _ (rw (is, asked.3) at unwanted_here)
+    -- What `wants` asks for.
+    pub wants_asked : length rule.wanted ≡ length values
+    wants_asked =
+        rw is (fluent_bytes_length s (rules_place s + i * rule_size s + 3) (omega (arith, rule_in_file i within)))
+        ∙ sym (values_length (value_counts s) values here ∙ counts_long)
+
+    -- What `new_world` asks for.
+    pub new_world_asked : {counts : List ℕ} → counts ≡ value_counts s →
+        (world_count counts ≤ 64) × (length rule.new ≡ length counts) × (some_pair value_wrong counts rule.new ≡ false) × Values counts values
+    new_world_asked are_counts =
+        let long : length rule.new ≡ fluents s
+        = rw is (fluent_bytes_length s (rules_place s + i * rule_size s + 3 + fluents s) (omega (arith, rule_in_file i within))) in
+        rw are_counts (omega (arith, rules.product, rules.sizes.worlds), long ∙ sym counts_long, rule_is_right.new_right, here)
+
+    -- Its cells lie in the part, which has at most 16,384 cells.
+    pub rule_cells_in : (part : List ℕ) → length part ≡ part_length n → rule.column < 256 →
+        (first_column n rule.column ≤ columns_end n rule.column)
+        × (2 * (row_start n rule.action world + columns_end n rule.column) ≤ length part)
+        × (length part ≤ 32768)
+    rule_cells_in part long known =
+        let between = columns_within n rules.sizes.columns_few rule.column (ruled_right n rule.column known rule_is_right.column_right) in
+        let rows = product_le 16 64 n.actions n.worlds rules.sizes.actions.1 rules.sizes.worlds.1 in
+        let few = product_le 1024 16 (n.actions * n.worlds) (width n) (omega arith) rules.sizes.columns_few in
+        (between.0, omega (arith, between.1, long, cells_row_in n rule.action world rule_is_right.action_range world<), omega (arith, long))
+
+    -- The rule has been applied where it wants the values and has claimed its columns in the row of its action.
+    pub applied_here :
+        {counts before after : List ℕ} {row first end next : ℕ} →
+        rule.column < 256 → not (some_pair unwanted rule.wanted values) ≡ true → row ≡ row_start n rule.action world →
+        first ≡ first_column n rule.column → end ≡ columns_end n rule.column → counts ≡ value_counts s →
+        next ≡ world_number counts (new_values rule.new values) →
+        Claimed before after (row + first) (row + end) next rule.result → Applied s n i world before after
+    applied_here known wants_them row_is first_is end_is counts_are next_is change =
+        applied s n i _ _ _ rules.sizes.columns_few world<
+        (rw is at (ruled_right n rule.column known rule_is_right.column_right))
+        (rw (is, are) at wants_them)
+        (rw (row_is, first_is, end_is, next_is, counts_are, are, is) at change)
+
+    pub applied_not_here : {part : List ℕ} → not (some_pair unwanted rule.wanted values) ≡ false → Applied s n i world part part
+    applied_not_here unwanted_here = applied_nowhere s n i _ _ (rw (is, are) at unwanted_here)

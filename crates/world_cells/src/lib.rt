@@ -117,8 +117,10 @@ pub fn fill_world(rules: &Rules, world: WorldState, part: &mut [u8])
     let mut values = [0u8; 6];
     world_values(counts, rules.sizes.worlds, world, &mut values);
     for i in 0..rules.count() {
-        if i % 64 == 63 && !any_left(part, rules.sizes, world) {
-            return;
+        if i % 64 == 63 {
+            if !any_left(part, rules.sizes, world) {
+                return;
+            }
         }
         apply_rule(rules, i, world, &values[..counts.len()], part);
     }

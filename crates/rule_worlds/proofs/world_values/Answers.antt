@@ -9,7 +9,7 @@ pub nonzero_div-values : goal.nonzero_div-values
 nonzero_div-values c = next_positive c.loop-i.invariant.digits (omega arith)
 
 pub nonzero_rem-rest : goal.nonzero_rem-rest
-nonzero_rem-rest c = next_positive c.loop-i.invariant.digits (omega arith)
+nonzero_rem-rest c = omega (arith, next_positive c.loop-i.invariant.digits (omega arith))
 
 pub loop-i-preserved : goal.loop-i-preserved
 loop-i-preserved c =
