@@ -25,7 +25,9 @@ fn is_cell_wrong(worlds: u8, results: u8, next: u8, sensed: u8) -> bool
     (sensed != 255) | (next != 0)
 }
 
-// One of the `count` cells from `from` on is out of range.
+// One of the `count` cells from `from` on is out of range. Inlined into the reader, the loop has a slow jump wherever the linker puts it; apart, only
+// at some places.
+#[inline(never)]
 fn any_cell_wrong(file: &[u8], from: usize, count: usize, worlds: u8, results: u8) -> bool
     requires { from + 2 * count ≤ length file.now }
     ensures { result ≡ some_below count (cell_wrong_at file.now from worlds results) }

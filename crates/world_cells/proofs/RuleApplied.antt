@@ -96,6 +96,12 @@ module _ (s : List ℕ) (n : Sizes) (right : rules_wrong s n ≡ false) where
   pub values_right : (world : ℕ) {values : List ℕ} → world < n.worlds → values ≡ values_in (value_counts s) world → Values (value_counts s) values
   values_right world world< are = rw are ((worlds_are_values (value_counts s)).has_values world (omega (arith, rules.product)))
 
+  -- Rule i has been applied where it does not want the values.
+  pub applied_not_here :
+      {i world : ℕ} {values : List ℕ} → values ≡ values_in (value_counts s) world → {rule : CellRule} → rule ≡ rule_at s i →
+      {part : List ℕ} → not (some_pair unwanted rule.wanted values) ≡ false → Applied s n i world part part
+  applied_not_here are is unwanted_here = applied_nowhere s n _ _ _ (rw (is, are) at unwanted_here)
+
   -- Rule i, for a world state in which the fluents have these values.
   module _ {i world : ℕ} {values : List ℕ} (within : i < rule_count s) (world< : world < n.worlds)
       (are : values ≡ values_in (value_counts s) world) {rule : CellRule} (is : rule ≡ rule_at s i) where
@@ -142,6 +148,3 @@ module _ (s : List ℕ) (n : Sizes) (right : rules_wrong s n ≡ false) where
         (rw is at (ruled_right n rule.column known rule_is_right.column_right))
         (rw (is, are) at wants_them)
         (rw (row_is, first_is, end_is, next_is, counts_are, are, is) at change)
-
-    pub applied_not_here : {part : List ℕ} → not (some_pair unwanted rule.wanted values) ≡ false → Applied s n i world part part
-    applied_not_here unwanted_here = applied_nowhere s n i _ _ (rw (is, are) at unwanted_here)

@@ -10,7 +10,7 @@ wants-requires c =
 pub returns-then-not-wants : goal.returns-then-not-wants
 returns-then-not-wants c =
     let r = c.args.rules.now in
-    applied_not_here r.bytes.now r.sizes r.right c.requires.1 c.requires.2 c.requires.3 c.rule-rule.ensures (sym c.wants.ensures ∙ c.if-not-wants.true)
+    applied_not_here r.bytes.now r.sizes r.right c.requires.3 c.rule-rule.ensures (sym c.wants.ensures ∙ c.if-not-wants.true)
 
 pub new_world-next-requires : goal.new_world-next-requires
 new_world-next-requires c =
